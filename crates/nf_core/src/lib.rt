@@ -1,6 +1,30 @@
 //! The types that all crates of nfer share.
 #![tactic(auto)]
 
+mod copies;
 mod errors;
+mod intervals;
+mod lines;
+mod lists;
+mod operators;
+mod rows;
+mod sets;
+mod steps;
+mod terms;
+mod texts;
+mod trees;
+mod values;
 
+pub use copies::TryCopy;
 pub use errors::NoMemory;
+pub use intervals::{Change, Delta, Interval, IntervalList, Named, NamedList};
+pub use lines::Lines;
+pub use lists::ListOf;
+pub use operators::{BinOp, Op, Xop};
+pub use rows::Row;
+pub use sets::{Held, IntervalSet};
+pub use steps::Steps;
+pub use terms::{Link, PlanEntry, PlanEntryList, PlanRule, Term};
+pub use texts::Text;
+pub use trees::{Atom, Body, Entry, EntryList, Expr, Module, ModuleList, Rule, RuleList, TextList};
+pub use values::Value;

@@ -1,0 +1,5 @@
+pub mod Texts
+pub mod Values
+pub mod Rows
+pub mod Intervals
+pub mod Sets

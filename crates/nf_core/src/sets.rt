@@ -1,0 +1,104 @@
+//! Sorted sets of intervals.
+
+ghost use Rattle.std.specs.Prelude.{◌≡◌, [], not, IfOk, OnOk, OnErr};
+ghost use Rattle.std.specs.Iterator.{YieldsFirstRef, item_count};
+ghost use Rattle.nf_core.specs.Sets.{IsSet, has, inserted, removed};
+
+use crate::errors::NoMemory;
+use crate::intervals::Interval;
+use std::alloc::Global;
+use std::collections::{BTreeSet, btree_set};
+use std::marker::Model;
+
+/// A sorted list of intervals, each once. Contracts see that list.
+#[derive(Debug, Drop)]
+pub struct IntervalSet {
+    set: BTreeSet<Interval>,
+}
+
+impl Model for IntervalSet {
+    ghost use Rattle.std.specs.Prelude.{List};
+    ghost use Rattle.nf_core.specs.Intervals as interval;
+
+    ghost Value = { List interval.Interval };
+
+    ghost use Rattle.nf_core.specs.Sets.{IsSet};
+
+    ghost view = { λ s. s.set.keys };
+
+    ghost invariant = { λ s. IsSet s.set.keys };
+}
+
+impl IntervalSet {
+    /// The set without intervals. Takes no memory.
+    pub fn new(alloc: Global) -> IntervalSet
+        ensures { result ≡ [] }
+    {
+        IntervalSet {
+            set: BTreeSet::new(alloc),
+        }
+    }
+
+    /// Adds an interval, and answers whether it wasn't there. Where memory is wanted the set stays
+    /// as it was.
+    pub fn insert(&mut self, interval: Interval) -> Result<bool, NoMemory>
+        ensures added { IfOk result (λ added. added ≡ not (has self.old interval)) }
+        ensures ok { OnOk result (self.new ≡ inserted interval self.old) }
+        ensures err { OnErr result (self.new ≡ self.old) }
+    {
+        Ok(self.set.insert(interval)?)
+    }
+
+    /// Takes an interval away, and answers whether it was there. Takes no memory.
+    pub fn remove(&mut self, interval: &Interval) -> bool
+        ensures found { result ≡ has self.old interval.now }
+        ensures rest { self.new ≡ removed interval.now self.old }
+    {
+        self.set.remove(interval)
+    }
+
+    /// Whether an interval is in the set. Takes no memory.
+    pub fn has(&self, interval: &Interval) -> bool
+        ensures { result ≡ has self.now interval.now }
+    {
+        self.set.contains(interval)
+    }
+
+    /// The intervals, as borrowed, ascending. Takes no memory.
+    pub fn walk(&self) -> Held<'_>
+        ensures items { result ≡ self.now }
+        ensures sorted { IsSet self.now }
+    {
+        Held {
+            rest: self.set.iter(),
+        }
+    }
+}
+
+/// Walks a sorted list of intervals as borrows, ascending. Contracts see the intervals that are
+/// left.
+#[derive(Drop)]
+pub struct Held<'a> {
+    rest: btree_set::Iter<'a, Interval>,
+}
+
+impl<'a> Model for Held<'a> {
+    ghost use Rattle.std.specs.Prelude.{List};
+    ghost use Rattle.nf_core.specs.Intervals as interval;
+
+    ghost Value = { List interval.Interval };
+
+    ghost view = { λ h. h.rest };
+}
+
+impl<'a> Iterator for Held<'a> {
+    type Item = &'a Interval;
+
+    ghost next_gives = { YieldsFirstRef (λ h. h) };
+
+    ghost remaining = { item_count (λ h. h) };
+
+    fn next(&mut self) -> Option<&'a Interval> {
+        self.rest.next()
+    }
+}
