@@ -3,3 +3,8 @@ pub mod Values
 pub mod Rows
 pub mod Intervals
 pub mod Sets
+pub mod Relations
+pub mod Expressions
+pub mod Identifiers
+pub mod Plan
+pub mod Written

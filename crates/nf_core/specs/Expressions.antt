@@ -1,0 +1,93 @@
+-- The value of an expression over one or two members. Undefined is no value.
+use Rattle.std.specs.Prelude.{ℕ, zero, suc, ℤ, pos, negsuc, ◌+ℤ◌, ◌-ℤ◌, ◌*ℤ◌, neg_ℤ, int_lt, int_le, int_div, int_rem, Bool, true, false, not, ◌&&◌, ◌||◌, Option, Some, None, option_and_then, slice_index_or, if◌then◌else◌}
+use Rattle.std.specs.Ordering.{int_eq, is_eq}
+use Rattle.nf_core.specs.Values.{value_cmp}
+use Rattle.nf_core.specs.Intervals.{Interval}
+use Rattle.nf_core.specs.declared.values.Value as value
+use Rattle.nf_core.specs.declared.values.Value.TheVariants as variant
+use Rattle.nf_core.specs.declared.operators.BinOp as operator
+use Rattle.nf_core.specs.declared.operators.BinOp.TheVariants as op
+use Rattle.nf_core.specs.declared.terms.Term as term
+use Rattle.nf_core.specs.declared.terms.Term.TheOpen as node
+use Rattle.nf_core.specs.declared.terms.Term.TheFolds.{fold-Term}
+
+-- the least and the greatest whole number of a value
+abbrev pub int_least : ℤ
+int_least = negsuc 9223372036854775807
+
+abbrev pub int_greatest : ℤ
+int_greatest = pos 9223372036854775807
+
+-- a whole number computed without bounds, and then tested for the range of values
+unfoldable pub in_range : ℤ → Option value.Value
+in_range n = if int_le int_least n && int_le n int_greatest then Some (variant.Int n) else None
+
+-- an operation on two whole numbers; Undefined at any other kind
+unfoldable pub of_ints : (ℤ → ℤ → Option value.Value) → value.Value → value.Value → Option value.Value
+of_ints f (variant.Int m) (variant.Int n) = f m n
+of_ints f a b = None
+
+-- an operation on two truth values; Undefined at any other kind
+unfoldable pub of_bools : (Bool → Bool → Bool) → value.Value → value.Value → Option value.Value
+of_bools f (variant.Bool a) (variant.Bool b) = Some (variant.Bool (f a b))
+of_bools f a b = None
+
+-- `/` truncates toward zero; a zero divisor is Undefined
+abbrev pub quotient : ℤ → ℤ → Option value.Value
+quotient m n = if int_eq n (pos 0) then None else in_range (int_div m n)
+
+-- `%` has the dividend's sign; a zero divisor is Undefined, and so is the least number % -1
+abbrev pub remainder : ℤ → ℤ → Option value.Value
+remainder m n = if int_eq n (pos 0) || (int_eq m int_least && int_eq n (negsuc 0)) then None else in_range (int_rem m n)
+
+-- the comparison of two whole numbers
+abbrev pub compared : (ℤ → ℤ → Bool) → ℤ → ℤ → Option value.Value
+compared test m n = Some (variant.Bool (test m n))
+
+-- an operator with two operands: `=` and `!=` compare any two values, the others want their kinds
+unfoldable pub binary : operator.BinOp → value.Value → value.Value → Option value.Value
+binary op.Or a b = of_bools (λ p q. p || q) a b
+binary op.And a b = of_bools (λ p q. p && q) a b
+binary op.Eq a b = Some (variant.Bool (is_eq (value_cmp a b)))
+binary op.Ne a b = Some (variant.Bool (not (is_eq (value_cmp a b))))
+binary op.Lt a b = of_ints (compared (λ m n. int_lt m n)) a b
+binary op.Le a b = of_ints (compared (λ m n. int_le m n)) a b
+binary op.Gt a b = of_ints (compared (λ m n. int_lt n m)) a b
+binary op.Ge a b = of_ints (compared (λ m n. int_le n m)) a b
+binary op.Add a b = of_ints (λ m n. in_range (m +ℤ n)) a b
+binary op.Sub a b = of_ints (λ m n. in_range (m -ℤ n)) a b
+binary op.Mul a b = of_ints (λ m n. in_range (m *ℤ n)) a b
+binary op.Div a b = of_ints quotient a b
+binary op.Rem a b = of_ints remainder a b
+
+-- unary `-`: of a whole number, tested for the range
+unfoldable pub negated : value.Value → Option value.Value
+negated (variant.Int n) = in_range (neg_ℤ n)
+negated v = None
+
+-- `!`: of a truth value
+unfoldable pub inverted : value.Value → Option value.Value
+inverted (variant.Bool b) = Some (variant.Bool (not b))
+inverted v = None
+
+-- member 0 is the first one and member 1 the second, where there is one
+unfoldable pub member : Interval → Option Interval → ℕ → Option Interval
+member first second zero = Some first
+member first second (suc n) = second
+
+module _ (first : Interval) (second : Option Interval) where
+  -- the value of a node, given the values of its operands: an Undefined operand makes it Undefined
+  unfoldable pub value_of_node : node.Term-F (Option value.Value) → Option value.Value
+  value_of_node (node.Bool b) = Some (variant.Bool b)
+  value_of_node (node.Int n) = Some (variant.Int n)
+  value_of_node (node.Text t) = Some (variant.Text t)
+  value_of_node (node.Start m) = option_and_then (λ (i : Interval). Some (variant.Int i.start)) (member first second m)
+  value_of_node (node.Stop m) = option_and_then (λ (i : Interval). Some (variant.Int i.stop)) (member first second m)
+  value_of_node (node.Key m place) = option_and_then (λ (i : Interval). slice_index_or i.row place None) (member first second m)
+  value_of_node (node.Neg a) = option_and_then negated a
+  value_of_node (node.Not a) = option_and_then inverted a
+  value_of_node (node.Bin op a b) = option_and_then (λ x. option_and_then (binary op x) b) a
+
+  -- the value of an expression, node by node
+  unfoldable pub value_of : term.Term → Option value.Value
+  value_of = fold-Term (Option value.Value) value_of_node

@@ -1,0 +1,74 @@
+-- The plan as contracts see it: names, keys, rules and levels by number.
+use Rattle.std.specs.Prelude.{◌≡◌, ℕ, suc, ◌<◌, ◌^◌, max, Bool, ◌==◌, List, [], ◌∷◌, length, map, filter, fold, flat_map, slice_index_or, All, IsTrue}
+use Rattle.std.specs.List.{list_any, IsDistinct}
+use Rattle.std.specs.List.Sorted.{IsStrictlySortedBy}
+use Rattle.nf_core.specs.Texts.{text_cmp, text_eq}
+use Rattle.nf_core.specs.Identifiers.{is_identifier}
+use Rattle.nf_core.specs.declared.terms.Link.{Link}
+use Rattle.nf_core.specs.declared.terms.Link.TheVariants.{One, Pair, Unless}
+use Rattle.nf_core.specs.declared.terms.PlanRule.{PlanRule}
+
+-- the names by number, the keys of each name by place, the rules in order, and the level of each name
+pub record Plan : Type 0 where
+  pub names : List (List ℕ)
+  pub keys : List (List (List ℕ))
+  pub rules : List PlanRule
+  pub levels : List ℕ
+
+-- the keys of a name, ascending
+abbrev pub keys_of : Plan → ℕ → List (List ℕ)
+keys_of plan n = slice_index_or plan.keys n []
+
+-- the level of a name
+abbrev pub level_of : Plan → ℕ → ℕ
+level_of plan n = slice_index_or plan.levels n 0
+
+-- the rules with a head, in their order
+abbrev pub rules_of : Plan → ℕ → List PlanRule
+rules_of plan n = filter (λ (rule : PlanRule). rule.head == n) plan.rules
+
+-- whether a name is the head of a rule
+abbrev pub is_head : Plan → ℕ → Bool
+is_head plan n = list_any (λ (rule : PlanRule). rule.head == n) plan.rules
+
+-- the second name of a body, where there is one
+abbrev pub second_name : Link → List ℕ
+second_name One = []
+second_name (Pair op n) = n ∷ []
+second_name (Unless xop n) = n ∷ []
+
+-- the names in a rule's body
+abbrev pub body_names : PlanRule → List ℕ
+body_names rule = rule.first ∷ second_name rule.link
+
+-- the greatest of some numbers, and 0 of none
+abbrev pub greatest : List ℕ → ℕ
+greatest = fold max 0
+
+-- 0 where a name has no rules, else one more than the greatest level of a name in their bodies
+abbrev pub level_by_rules : Plan → ℕ → ℕ
+level_by_rules plan n = greatest (map (λ m. suc (level_of plan m)) (flat_map body_names (rules_of plan n)))
+
+-- the numbers of a rule are names of the plan, and it knows how many keys its head has
+pub record IsRuleOf (plan : Plan) (rule : PlanRule) : Type 0 where
+  pub head : rule.head < length plan.names
+  pub body : All (λ n. n < length plan.names) (body_names rule)
+  pub keys : rule.keys ≡ length (keys_of plan rule.head)
+
+-- ascending, each once, fewer than 2^32 of them, and each an identifier
+pub record AreKeys (keys : List (List ℕ)) : Type 0 where
+  pub few : length keys < 2 ^ 32
+  pub ascending : IsStrictlySortedBy text_cmp keys
+  pub identifiers : All (λ key. IsTrue (is_identifier key)) keys
+
+-- what holds of every plan. That each name has its level by its rules makes them acyclic
+pub record IsPlan (plan : Plan) : Type 0 where
+  pub few_names : length plan.names < 2 ^ 32
+  pub few_rules : length plan.rules < 2 ^ 32
+  pub distinct : IsDistinct text_eq plan.names
+  pub identifiers : All (λ name. IsTrue (is_identifier name)) plan.names
+  pub each_keys : length plan.keys ≡ length plan.names
+  pub keys : All AreKeys plan.keys
+  pub each_level : length plan.levels ≡ length plan.names
+  pub levels : (n : ℕ) → n < length plan.names → level_of plan n ≡ level_by_rules plan n
+  pub rules : All (IsRuleOf plan) plan.rules
