@@ -1,0 +1,28 @@
+use Rattle.std.specs.Prelude.{◌≡◌, ℕ, ◌+◌, ◌-◌, ◌^◌, ◌<◌, ◌≤◌, ◌⊎◌, Result, OnErr, min}
+use Rattle.std.proofs.Common.{inl, inr, arith}
+
+-- the greatest count that a counter holds; a counter that stands there stays there
+abbrev pub count_limit : ℕ
+count_limit = 2 ^ 64 - 1
+
+-- a count rose: it is greater than before, or stands at its limit
+abbrev pub Rose : ℕ → ℕ → Type 0
+Rose before now = (before < now) ⊎ (now ≡ count_limit)
+
+-- a failure is answered only where the count of faults rose
+abbrev pub HasCause : {T E : Type 0} → ℕ → ℕ → Result T E → Type 0
+HasCause before now result = OnErr result (Rose before now)
+
+-- a count after one more: greater by one, or at its limit
+abbrev pub risen : ℕ → ℕ
+risen count = min (count + 1) count_limit
+
+-- a count that rose and never fell afterwards has risen in all
+pub Rose-then_later : (first before now : ℕ) → first ≤ before → Rose first before → before ≤ now → Rose first now
+Rose-then_later first before now was (inl rose) later = inl (omega arith)
+Rose-then_later first before now was (inr at_limit) later = grind arith
+
+-- a count that never fell before it rose has risen in all
+pub later-then_Rose : (first before now : ℕ) → first ≤ before → Rose before now → Rose first now
+later-then_Rose first before now later (inl rose) = inl (omega arith)
+later-then_Rose first before now later (inr at_limit) = inr at_limit

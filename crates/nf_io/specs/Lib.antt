@@ -1,0 +1,5 @@
+pub mod Causes
+pub mod Files
+pub mod Bytes
+pub mod Memory
+pub mod Real

@@ -1,0 +1,139 @@
+//! The shelf of the real files and of standard input. It is the trusted edge.
+ghost use Rattle.std.specs.Prelude.{◌≡◌, ◌<◌, ◌≤◌, false, length, drop, None, IfOk, is_ok, is_err, if◌then◌else◌};
+ghost use Rattle.nf_io.specs.Causes.{HasCause, risen};
+
+use crate::failure::Failed;
+use crate::shelves::Shelf;
+use std::fs;
+use std::io::Read;
+use std::marker::Model;
+use std::rt::Files;
+
+// What is read from: nothing where no file is current.
+#[derive(Drop)]
+enum Source<I, F> {
+    Nothing,
+    Input(I),
+    File(F),
+}
+
+impl<I: Read, F: Read> Source<I, F> {
+    // Reads first bytes into the piece, and answers how many.
+    fn read(&mut self, piece: &mut [u8]) -> Result<usize, Failed>
+        ensures { IfOk result (λ n. n ≤ length piece.new) }
+    {
+        let outcome = match self {
+            Source::Nothing => return Err(Failed),
+            Source::Input(input) => input.read(piece),
+            Source::File(file) => file.read(piece),
+        };
+        match outcome {
+            Ok(count) => Ok(count),
+            Err(_) => Err(Failed),
+        }
+    }
+}
+
+/// The files by their names, and standard input by the name `-`. It tells no content.
+///
+/// A contract sees the count of its faults, which rises at each failure and stands still at
+/// 2^64 - 1, and whether its last call failed (`RealShelfState` in specs/Real.antt).
+#[derive(Drop)]
+pub struct RealShelf<'a, R: Files + Input> {
+    rt: &'a R,
+    source: Source<R::Reader, R::File>,
+    faults: u64,
+    failed: bool,
+}
+
+impl<'a, R: Files + Input> Model for RealShelf<'a, R> {
+    ghost use Rattle.nf_io.specs.Real.{RealShelfState};
+
+    ghost Value = { RealShelfState };
+
+    ghost view = { λ s. record { faults = s.faults; failed = s.failed } };
+}
+
+impl<'a, R: Files + Input> RealShelf<'a, R> {
+    /// The shelf of the files and of the standard input of `rt`. No file is current yet.
+    pub fn new(rt: &'a R) -> RealShelf<'a, R>
+        ensures faults { result.faults ≡ 0 }
+        ensures failed { result.failed ≡ false }
+    {
+        RealShelf {
+            rt,
+            source: Source::Nothing,
+            faults: 0,
+            failed: false,
+        }
+    }
+
+    // Keeps whether this call failed, and counts the failure.
+    fn record<T>(&mut self, outcome: Result<T, Failed>) -> Result<T, Failed>
+        ensures same { result ≡ outcome }
+        ensures faults { self.new.faults ≡ (if is_ok outcome then self.old.faults else risen self.old.faults) }
+        ensures failed { self.new.failed ≡ is_err outcome }
+        ensures cause { HasCause self.old.faults self.new.faults outcome }
+        ensures never_falls { self.old.faults ≤ self.new.faults }
+    {
+        self.failed = outcome.is_err();
+        if self.failed {
+            self.faults = self.faults.saturating_add(1);
+        }
+        outcome
+    }
+
+    fn open(&self, name: &str) -> Result<Source<R::Reader, R::File>, Failed> {
+        if name == "-" {
+            return Ok(Source::Input(self.rt.reader()));
+        }
+        match fs::open(self.rt, name) {
+            Ok(file) => Ok(Source::File(file)),
+            Err(_) => Err(Failed),
+        }
+    }
+}
+
+// How many bytes one read asks for at most.
+const PIECE: usize = 8192;
+
+impl<'a, R: Files + Input> Shelf for RealShelf<'a, R> {
+    ghost files = { λ _. None };
+
+    ghost asked = { λ _. None };
+
+    ghost rest = { λ _. None };
+
+    ghost failed = { λ s. s.failed };
+
+    ghost faults = { λ s. s.faults };
+
+    /// Opens the file of this name, or standard input.
+    ///
+    /// Answers Failed where the file can't be opened; then no file is current.
+    fn pick(&mut self, name: &str) -> Result<(), Failed> {
+        self.source = Source::Nothing;
+        match self.open(name) {
+            Ok(source) => {
+                self.source = source;
+                self.record(Ok(()))
+            }
+            Err(Failed) => self.record(Err(Failed)),
+        }
+    }
+
+    /// Reads the next bytes of the current file into the first places of the buffer, and answers
+    /// how many bytes these are; 0 is the end of the file.
+    ///
+    /// Answers Failed where the read fails or no file is current.
+    fn read(&mut self, buf: &mut [u8]) -> Result<usize, Failed> {
+        let mut piece = [0; PIECE];
+        let most = buf.len().min(PIECE);
+        let outcome = self.source.read(&mut piece[..most]);
+        let count = self.record(outcome)?;
+        buf[..count].copy_from_slice(&piece[..count]);
+        Ok(count)
+    }
+
+    ghost asked_told = { λ _ h. h };
+}

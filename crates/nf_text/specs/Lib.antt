@@ -1,0 +1,4 @@
+pub mod Fields
+pub mod Place
+pub mod Time
+pub mod Value

@@ -1,0 +1,138 @@
+-- The defined answer to the words and the files, and how the end of a call stands to it.
+use Rattle.std.specs.Prelude.{◌≡◌, ℕ, ◌+◌, ◌≤◌, ◌<◌, Bool, true, false, nat_lt, List, [], ◌++◌, take, drop, length, Option, Some, None, IfSome, IsSomeAnd, ⊤, IsTrue, if◌then◌else◌}
+use Rattle.nf_core.specs.Plan.{Plan}
+use Rattle.nf_core.specs.declared.trees.Rule.{Rule}
+use Rattle.nf_io.specs.Files.{Files, bytes_of, asked_of}
+use Rattle.nf_io.specs.Causes.{Rose}
+use Rattle.nf_io.specs.Bytes.{Took, TookPrefix}
+use Rattle.nfer_cli.specs.Words.{Asked, Follow, asked, file_words, file_word, trace_word}
+use Rattle.nfer_cli.specs.Specification.{specification_limit, rules_of, IsPlanOf}
+use Rattle.nfer_cli.specs.Trace.{Ending, Done, Refused, Refusal, InNoForm, Falls, trace}
+use Rattle.nfer_cli.specs.Follow.{follow_text}
+use Rattle.nfer_cli.specs.declared.status.Status.{Status}
+use Rattle.nfer_cli.specs.declared.status.Status.TheVariants as status
+
+-- what a command is to answer: the text for standard output, and the status, which shows the message
+pub record Answer : Type 0 where
+  pub text : List ℕ
+  pub status : Status
+
+-- a refusal has no text
+abbrev pub refusal : Status → Answer
+refusal status = record { text = []; status = status }
+
+-- the most bytes of a trace, which this stage reads whole
+abbrev pub trace_limit : ℕ
+trace_limit = 1048576
+
+-- the most bytes of one read
+abbrev pub piece_limit : ℕ
+piece_limit = 65536
+
+-- the status of the end of a trace
+abbrev pub status_of : Ending → Status
+status_of Done = status.Done
+status_of (Refused number InNoForm) = status.LineUnbuilt number
+status_of (Refused number (Falls kept found)) = status.Order number kept found
+
+-- `follow` over a plan and the bytes of a trace: the text of its accepted lines, and the status of its end; a trace that is too long comes before any line
+abbrev pub followed : Plan → Bool → List ℕ → Answer
+followed plan full bytes =
+    if nat_lt trace_limit (length bytes) then refusal status.TraceUnbuilt
+    else record { text = follow_text plan full (trace bytes).events; status = status_of (trace bytes).ending }
+
+-- what the bytes of a specification are: too long, in no form, or rules
+pub data Specified : Type 0 where
+  TooLong : Specified
+  NoForm : Specified
+  Rules : List Rule → Specified
+
+abbrev pub in_form : Option (List Rule) → Specified
+in_form None = NoForm
+in_form (Some rules) = Rules rules
+
+unfoldable pub specified : List ℕ → Specified
+specified bytes = if nat_lt specification_limit (length bytes) then TooLong else in_form (rules_of bytes)
+
+-- the answer of `follow --full` to a specification and the bytes of a trace
+abbrev pub FollowDefines : Specified → List ℕ → Answer → Type 0
+FollowDefines TooLong bytes answer = answer ≡ refusal status.SpecificationTooLong
+FollowDefines NoForm bytes answer = answer ≡ refusal status.Unbuilt
+FollowDefines (Rules rules) bytes answer = (plan : Plan) × IsPlanOf rules plan × (answer ≡ followed plan true bytes)
+
+-- the defined answer to what is asked, over the files
+abbrev pub Defines : Option Asked → Files → Answer → Type 0
+Defines None files answer = answer ≡ refusal status.Usage
+Defines (Some (Follow file)) files answer = FollowDefines (specified (bytes_of files file)) (bytes_of files trace_word) answer
+
+-- whether a status is known before the file at a place is read
+abbrev pub is_known_before : ℕ → Status → Bool
+is_known_before place status.Usage = true
+is_known_before place status.SpecificationTooLong = nat_lt 0 place
+is_known_before place status.Unbuilt = nat_lt 0 place
+is_known_before place other = false
+
+-- a call ends with the defined status, or with a fault that comes before it, or with want of memory
+abbrev pub EndsFor : Status → Status → Type 0
+EndsFor (status.ReadFault place) defined = is_known_before place defined ≡ false
+EndsFor status.WriteFault defined = ⊤
+EndsFor status.NoMemory defined = ⊤
+EndsFor result defined = result ≡ defined
+
+-- a sink took a part of a text in between, less than the whole
+abbrev pub TookPart : Option (List ℕ) → Option (List ℕ) → List ℕ → Type 0
+TookPart before now text = IfSome now (λ after. IsSomeAnd before (λ first. (k : ℕ) × (k < length text) × (after ≡ first ++ take k text)))
+
+-- what was taken of the defined text: less than the whole where a write failed, a prefix where a read failed or memory was wanted, else the whole
+abbrev pub Wrote : Status → Option (List ℕ) → Option (List ℕ) → List ℕ → Type 0
+Wrote (status.ReadFault place) before now text = TookPrefix before now text
+Wrote status.WriteFault before now text = TookPart before now text
+Wrote status.NoMemory before now text = TookPrefix before now text
+Wrote result before now text = Took before now text
+
+-- a call answered for a defined answer: by its status, and by what was taken of its text
+pub record Answers (Defined : Answer → Type 0) (result : Status) (before now : Option (List ℕ)) : Type 0 where
+  pub answer : Answer
+  pub defined : Defined answer
+  pub ends : EndsFor result answer.status
+  pub writes : Wrote result before now answer.text
+
+-- a file couldn't be read: the word is a file word of the command, the shelf's faults rose, its last call failed, and it was asked for that file
+pub record CannotRead (words : List (List ℕ)) (place : ℕ) (files : Option Files) (before now : ℕ) (failed : Bool) (last : Option (List ℕ)) : Type 0 where
+  pub place_is : place < length (file_words (asked words))
+  pub rose : Rose before now
+  pub has_failed : IsTrue failed
+  pub asked_is : IfSome files (λ files. last ≡ Some (asked_of files (file_word words place)))
+
+-- what follows from a status that is a read fault
+abbrev pub IfReadFault : Status → (ℕ → Type 0) → Type 0
+IfReadFault (status.ReadFault place) P = P place
+IfReadFault result P = ⊤
+
+-- the shelf stands in a file of which at most this many bytes were read
+pub record StandsIn (files : Files) (name : List ℕ) (most : ℕ) (last rest : Option (List ℕ)) : Type 0 where
+  pub asked_is : last ≡ Some (asked_of files name)
+  pub read : ℕ
+  pub within : read ≤ most
+  pub rest_is : rest ≡ Some (drop read (bytes_of files name))
+
+-- the shelf stands at the end of a file
+pub record StandsAtEnd (files : Files) (name : List ℕ) (last rest : Option (List ℕ)) : Type 0 where
+  pub asked_is : last ≡ Some (asked_of files name)
+  pub rest_is : rest ≡ Some []
+
+-- where reading stood at the end of a call: no read is made after a refusal is known, and at most one piece was read past the byte that shows it
+abbrev pub ReadsTo : Option Asked → Status → Files → Option (List ℕ) → Option (List ℕ) → Option (List ℕ) → Option (List ℕ) → Type 0
+ReadsTo (Some (Follow file)) status.SpecificationTooLong files asked_before rest_before last rest = StandsIn files file (specification_limit + piece_limit) last rest
+ReadsTo (Some (Follow file)) status.Unbuilt files asked_before rest_before last rest = StandsAtEnd files file last rest
+ReadsTo (Some (Follow file)) status.TraceUnbuilt files asked_before rest_before last rest = StandsIn files trace_word (trace_limit + piece_limit) last rest
+ReadsTo (Some (Follow file)) status.Done files asked_before rest_before last rest = StandsAtEnd files trace_word last rest
+ReadsTo (Some (Follow file)) (status.LineUnbuilt line) files asked_before rest_before last rest = StandsAtEnd files trace_word last rest
+ReadsTo (Some (Follow file)) (status.Order line kept found) files asked_before rest_before last rest = StandsAtEnd files trace_word last rest
+ReadsTo None result files asked_before rest_before last rest = (last ≡ asked_before) × (rest ≡ rest_before)
+ReadsTo (Some (Follow file)) other files asked_before rest_before last rest = ⊤
+
+-- an answer to what is asked, or want of memory
+abbrev pub IsCompleteFor : (Answer → Type 0) → Status → Type 0
+IsCompleteFor Defined status.NoMemory = ⊤
+IsCompleteFor Defined result = (answer : Answer) × Defined answer × (result ≡ answer.status)

@@ -1,0 +1,37 @@
+-- What `follow` writes: the text of each line's change, every prefix of the trace computed anew.
+use Rattle.std.specs.Prelude.{ℕ, ◌+◌, Bool, List, [], map, fold, flat_map, reverse, take, length, position, bytes_eq, Option, Some, None}
+use Rattle.std.specs.List.{range_with_len}
+use Rattle.std.specs.Map.{lookup}
+use Rattle.nf_core.specs.declared.values.Value as value
+use Rattle.nf_core.specs.Plan.{Plan, keys_of}
+use Rattle.nf_model.specs.Changes.{Content, with_input, change}
+use Rattle.nfer_cli.specs.Announcements.{change_text}
+use Rattle.nfer_cli.specs.Trace.{Event}
+
+-- the row of a name from some pairs: each of its keys has the value of its last pair, or is missing
+abbrev pub row_from : Plan → ℕ → List (List ℕ × value.Value) → List (Option value.Value)
+row_from plan n pairs = map (λ key. lookup (bytes_eq key) (reverse pairs)) (keys_of plan n)
+
+-- an event enters the inputs of its name, where the plan has the name
+abbrev pub entered_at : Content → Event → Option ℕ → Content
+entered_at content event None = content
+entered_at content event (Some n) = with_input n (record { start = event.time; stop = event.time; row = row_from content.plan n event.pairs }) content
+
+abbrev pub entered : Content → Event → Content
+entered content event = entered_at content event (position (bytes_eq event.name) content.plan.names)
+
+-- the content without inputs
+abbrev pub no_inputs : Plan → Bool → Content
+no_inputs plan full = record { plan = plan; full = full; inputs = map (λ name. []) plan.names }
+
+-- the content after some events
+unfoldable pub content_after : Plan → Bool → List Event → Content
+content_after plan full events = fold entered (no_inputs plan full) events
+
+-- the text of the event at a place: the change from the events before it to those with it
+abbrev pub text_at : Plan → Bool → List Event → ℕ → List ℕ
+text_at plan full events place = change_text plan (change (content_after plan full (take place events)) (content_after plan full (take (place + 1) events)))
+
+-- the text of all events
+unfoldable pub follow_text : Plan → Bool → List Event → List ℕ
+follow_text plan full events = flat_map (text_at plan full events) (range_with_len 0 (length events))

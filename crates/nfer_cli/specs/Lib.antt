@@ -1,0 +1,10 @@
+pub mod Lines
+pub mod Announcements
+pub mod Trace
+pub mod Follow
+pub mod Replay
+pub mod Specification
+pub mod Words
+pub mod Statuses
+pub mod Messages
+pub mod Answers

@@ -1,0 +1,46 @@
+//! The statuses of the program.
+
+ghost use Rattle.std.specs.Prelude.{◌≡◌};
+ghost use Rattle.nfer_cli.specs.Statuses.{code_of};
+
+/// How a call ended. A status carries what its message shows.
+#[derive(Debug, Clone, Copy, PartialEq, Eq)]
+pub enum Status {
+    /// Everything defined was written, and the input was read to its end.
+    Done,
+    /// The words are in no form.
+    Usage,
+    /// The specification has more than 1,048,576 bytes.
+    SpecificationTooLong,
+    /// The specification isn't in the form of this stage.
+    Unbuilt,
+    /// The trace has more than 1,048,576 bytes, which this stage can't hold.
+    TraceUnbuilt,
+    /// The line of this number, counted from 1, isn't in the form of this stage.
+    LineUnbuilt(u64),
+    /// The time of the line of this number is less than that of the last accepted line.
+    Order { line: u64, kept: i64, found: i64 },
+    /// The file at this place, counted from 0, of the command's files couldn't be read.
+    ReadFault(usize),
+    /// Standard output couldn't be written.
+    WriteFault,
+    /// No memory was left.
+    NoMemory,
+}
+
+impl Status {
+    /// The exit status of the program, from 0 to 9 (`code_of` of specs/Statuses).
+    pub fn code(&self) -> u8
+        ensures { result ≡ code_of self.now }
+    {
+        match self {
+            Status::Done => 0,
+            Status::Usage => 1,
+            Status::SpecificationTooLong | Status::Unbuilt => 2,
+            Status::TraceUnbuilt | Status::LineUnbuilt(_) | Status::Order { .. } => 3,
+            Status::ReadFault(_) => 4,
+            Status::WriteFault => 5,
+            Status::NoMemory => 6,
+        }
+    }
+}
