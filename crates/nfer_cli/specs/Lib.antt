@@ -5,6 +5,7 @@ pub mod Follow
 pub mod Replay
 pub mod Specification
 pub mod Words
+pub mod Commands
 pub mod Statuses
 pub mod Messages
 pub mod Answers
