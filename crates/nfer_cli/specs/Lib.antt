@@ -9,3 +9,4 @@ pub mod Commands
 pub mod Statuses
 pub mod Messages
 pub mod Answers
+pub mod Reading
