@@ -1,5 +1,5 @@
 -- The value of an expression over one or two members. Undefined is no value.
-use Rattle.std.specs.Prelude.{ℕ, zero, suc, ℤ, pos, negsuc, ◌+ℤ◌, ◌-ℤ◌, ◌*ℤ◌, neg_ℤ, int_lt, int_le, int_div, int_rem, Bool, true, false, not, ◌&&◌, ◌||◌, Option, Some, None, option_and_then, slice_index_or, if◌then◌else◌}
+use Rattle.std.specs.Prelude.{ℕ, zero, suc, ℤ, pos, negsuc, ◌+ℤ◌, ◌-ℤ◌, ◌*ℤ◌, neg_ℤ, int_lt, int_le, int_div, int_rem, Bool, not, ◌&&◌, ◌||◌, Option, Some, None, option_and_then, slice_index_or, if◌then◌else◌}
 use Rattle.std.specs.Ordering.{int_eq, is_eq}
 use Rattle.nf_core.specs.Values.{value_cmp}
 use Rattle.nf_core.specs.Intervals.{Interval}

@@ -1,5 +1,5 @@
 -- Identifiers: the names, labels and keys that a specification can write.
-use Rattle.std.specs.Prelude.{ℕ, Bool, true, false, not, ◌&&◌, ◌||◌, ◌==◌, nat_le, List, [], ◌∷◌, codes, bytes_eq}
+use Rattle.std.specs.Prelude.{ℕ, Bool, false, not, ◌&&◌, ◌||◌, ◌==◌, nat_le, List, [], ◌∷◌, codes, bytes_eq}
 use Rattle.std.specs.List.{list_any, list_all}
 
 -- `A` to `Z`, `a` to `z` and `_`

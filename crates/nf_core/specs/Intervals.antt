@@ -1,7 +1,7 @@
 -- Intervals, their order, and when one lies strictly inside another.
 use Rattle.std.specs.Prelude.{ℤ, Bool, not, ◌&&◌, int_le, List, Option}
 use Rattle.std.specs.declared.cmp.Ordering.{Ordering}
-use Rattle.std.specs.Ordering.{ordering_then, int_cmp, int_eq, is_eq, on}
+use Rattle.std.specs.Ordering.{ordering_then, int_cmp, int_eq, is_eq}
 use Rattle.std.specs.Cmp.{IsTotalOrder, then_total, on_total, int_cmp_total}
 use Rattle.nf_core.specs.Rows.{row_cmp, row_cmp_total}
 use Rattle.nf_core.specs.declared.values.Value as value

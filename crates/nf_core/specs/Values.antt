@@ -1,7 +1,7 @@
 -- Values: truth values, whole numbers and texts, and their order.
-use Rattle.std.specs.Prelude.{ℕ, ℤ, Bool, true, false, List, [], pos, ◌≡◌, refl}
+use Rattle.std.specs.Prelude.{ℕ, ℤ, Bool, false, List, [], pos, ◌≡◌, refl}
 use Rattle.std.specs.declared.cmp.Ordering.{Ordering}
-use Rattle.std.specs.declared.cmp.Ordering.TheVariants.{Less, Equal, Greater}
+use Rattle.std.specs.declared.cmp.Ordering.TheVariants.{Less, Greater}
 use Rattle.std.specs.Ordering.{nat_cmp, int_cmp, bool_cmp, then_cmp, on}
 use Rattle.std.specs.Cmp.{IsTotalOrder, then_total, on_total, nat_cmp_total, int_cmp_total, bool_cmp_total}
 use Rattle.std.specs.Cmp.Lexicographic.{nat_list_cmp_total}

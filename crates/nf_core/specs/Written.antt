@@ -19,7 +19,6 @@ use Rattle.nf_core.specs.declared.terms.Term as term
 use Rattle.nf_core.specs.declared.terms.Term.TheVariants as of_term
 use Rattle.nf_core.specs.declared.terms.Link.{Link}
 use Rattle.nf_core.specs.declared.terms.Link.TheVariants as link
-use Rattle.nf_core.specs.declared.terms.PlanEntry.{PlanEntry}
 use Rattle.nf_core.specs.declared.terms.PlanRule.{PlanRule}
 
 -- texts, each once, in the order in which they first appear

@@ -1,0 +1,6 @@
+pub mod Maps
+pub mod EachOnce
+pub mod Ascending
+pub mod PlanOf
+pub mod Bare
+pub mod Loops
