@@ -1,5 +1,5 @@
 use Rattle.std.proofs.Common.{◌≡◌, ℕ, ◌+◌, ◌-◌, ◌≤◌, ◌++◌, ◌∙◌, ap, List, Option, length, take, drop, arith, length-drop}
-use Rattle.std.proofs.lemmas.List.{take_all, take-append-le, length-take-le}
+use Rattle.std.proofs.lemmas.List.{take_all, take-append-le}
 use Rattle.std.proofs.Math.Seq.{take-add, take-append-add}
 use Rattle.nf_io.specs.Bytes.{Took, Took-join}
 

@@ -1,11 +1,10 @@
-use Rattle.std.specs.Prelude.{◌≡◌, ℕ, ◌+◌, ◌≤◌, ◌↔◌, List, [], ◌++◌, length, take, Option, None, Some, IfSome, IsSomeAnd}
-use Rattle.std.proofs.Common.{sym, ◌∙◌, ap, refl, append_assoc, zero}
-use Rattle.std.proofs.lemmas.List.{append-nil, take_min, take-append-le, length-take}
+use Rattle.std.specs.Prelude.{◌≡◌, ℕ, ◌+◌, ◌<◌, ◌≤◌, ◌↔◌, List, [], ◌++◌, length, take, min, Option, None, Some, IfSome, IsSomeAnd}
+use Rattle.std.proofs.Common.{sym, ◌∙◌, ap, append_assoc, arith, length-append}
+use Rattle.std.proofs.lemmas.List.{append-nil, take_min, take-append-le}
 use Rattle.std.proofs.Math.Seq.{take-append_seam, take-append-add}
 use Rattle.std.proofs.Math.Nat.{min-le_right}
-use Rattle.std.specs.Prelude.{min}
 
--- a read of n bytes put the first n bytes of what was left first into the buffer, and n is 0 exactly at the end
+-- a read put the first n bytes of what was left into the buffer's first places, and n is 0 exactly at the end
 pub record Gives (buffer : List ℕ) (n : ℕ) (left : List ℕ) : Type 0 where
   pub bytes : take n buffer ≡ take n left
   pub enough : n ≤ length left
@@ -19,6 +18,11 @@ Took before now piece = IfSome now (λ after. IsSomeAnd before (λ first. after 
 abbrev pub TookPrefix : Option (List ℕ) → Option (List ℕ) → List ℕ → Type 0
 TookPrefix before now text =
     IfSome now (λ after. IsSomeAnd before (λ first. (k : ℕ) × (after ≡ first ++ take k text)))
+
+-- the same, and less than the whole text was taken
+abbrev pub TookPart : Option (List ℕ) → Option (List ℕ) → List ℕ → Type 0
+TookPart before now text =
+    IfSome now (λ after. IsSomeAnd before (λ first. (k : ℕ) × (k < length text) × (after ≡ first ++ take k text)))
 
 -- nothing was taken
 pub Took-none : (told : Option (List ℕ)) → Took told told []
@@ -70,3 +74,27 @@ pub TookPrefix-take : (before now : Option (List ℕ)) (k : ℕ) (text : List �
 TookPrefix-take before None k text p = tt
 TookPrefix-take None (Some after) k text p = absurd p
 TookPrefix-take (Some first) (Some after) k text p = (k, p)
+
+-- the first k bytes of a text that has more of them are a part of it
+pub TookPart-take : (before now : Option (List ℕ)) (k : ℕ) (text : List ℕ) → k < length text → Took before now (take k text) → TookPart before now text
+TookPart-take before None k text few p = tt
+TookPart-take None (Some after) k text few p = absurd p
+TookPart-take (Some first) (Some after) k text few p = (k, few, p)
+
+-- a part of a text is a part of the text followed by any other
+pub TookPart-more : (before now : Option (List ℕ)) (x y : List ℕ) → TookPart before now x → TookPart before now (x ++ y)
+TookPart-more before None x y p = tt
+TookPart-more None (Some after) x y p = absurd p
+TookPart-more (Some first) (Some after) x y p =
+    (p.0, omega (arith, length-append x y), p.2 ∙ ap (λ t. first ++ t) (sym (take-append-le p.0 x y (omega arith))))
+
+-- a whole piece, and then a part of a second, is a part of both
+pub TookPart-after : (first before now : Option (List ℕ)) (x y : List ℕ) → Took first before x → TookPart before now y → TookPart first now (x ++ y)
+TookPart-after first before None x y p q = tt
+TookPart-after first None (Some after) x y p q = absurd q
+TookPart-after None (Some middle) (Some after) x y p q = absurd p
+TookPart-after (Some start) (Some middle) (Some after) x y p q = (
+  length x + q.0,
+  omega (arith, length-append x y),
+  q.2 ∙ ap (λ t. t ++ take q.0 y) p ∙ append_assoc start x (take q.0 y) ∙ ap (λ t. start ++ t) (sym (take-append-add x y q.0)),
+)

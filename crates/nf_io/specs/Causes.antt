@@ -1,4 +1,4 @@
-use Rattle.std.specs.Prelude.{◌≡◌, ℕ, ◌+◌, ◌-◌, ◌^◌, ◌<◌, ◌≤◌, ◌⊎◌, Result, OnErr, min}
+use Rattle.std.specs.Prelude.{◌≡◌, ℕ, ◌+◌, ◌-◌, ◌^◌, ◌<◌, ◌≤◌, ◌⊎◌, Result, OnErr, is_ok, min, if◌then◌else◌}
 use Rattle.std.proofs.Common.{inl, inr, arith}
 
 -- the greatest count that a counter holds; a counter that stands there stays there
@@ -16,6 +16,10 @@ HasCause before now result = OnErr result (Rose before now)
 -- a count after one more: greater by one, or at its limit
 abbrev pub risen : ℕ → ℕ
 risen count = min (count + 1) count_limit
+
+-- the count of faults after an answer: after a failure one more
+abbrev pub faults_after : {T E : Type 0} → ℕ → Result T E → ℕ
+faults_after faults result = if is_ok result then faults else risen faults
 
 -- a count that rose and never fell afterwards has risen in all
 pub Rose-then_later : (first before now : ℕ) → first ≤ before → Rose first before → before ≤ now → Rose first now

@@ -3,7 +3,8 @@ use Rattle.std.specs.List.{list_any}
 use Rattle.nf_io.specs.Causes.{risen}
 use Rattle.nf_io.specs.Files.{Files}
 
--- a shelf without failures: its files, the most bytes of one read, the name asked for, what is left where told
+-- a shelf without failures: its files, the most bytes of one read, the name asked for, and what is left of the
+-- current file, which is told where the last pick answered Ok
 pub record SureShelfState : Type 0 where
   pub files : Files
   pub most : ℕ
@@ -45,7 +46,7 @@ is_next_listed fails calls = list_any (λ call. call == risen calls) fails
 abbrev pub left_of : Option (List ℕ) → List ℕ
 left_of rest = unwrap_or rest []
 
--- how many bytes one read gives: the least of the most of one read, the places of the buffer and the bytes left
+-- how many bytes one read gives: the least of the most of one read, the buffer's places and the bytes left
 abbrev pub read_count : ℕ → ℕ → List ℕ → ℕ
 read_count most places left = min most (min places (length left))
 
@@ -60,7 +61,7 @@ abbrev pub entry_at : Files → Option ℕ → List ℕ × List ℕ
 entry_at files None = ([], [])
 entry_at files (Some place) = unwrap_or (slice_get files place) ([], [])
 
--- a shelf stands in the file at this place: a read gives at least one byte, and no more was read than is there
+-- a shelf stands in the file at this place: a read may give a byte, and no more was read than is there
 pub record IsReading (files : Files) (most : ℕ) (place from : Option ℕ) : Type 0 where
   pub some : 0 < most
   pub within : IfSome from (λ start. start ≤ length (entry_at files place).1)

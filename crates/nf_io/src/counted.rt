@@ -1,6 +1,6 @@
 //! Counts of calls and of faults, with the calls that fail.
-ghost use Rattle.std.specs.Prelude.{◌≡◌, ◌≤◌, ◌||◌, not, is_ok, is_err, if◌then◌else◌};
-ghost use Rattle.nf_io.specs.Causes.{HasCause, risen};
+ghost use Rattle.std.specs.Prelude.{◌≡◌, ◌≤◌, ◌||◌, not, is_err};
+ghost use Rattle.nf_io.specs.Causes.{HasCause, faults_after, risen};
 ghost use Rattle.nf_io.specs.Memory.{is_next_listed};
 
 use crate::call_list::CallList;
@@ -30,10 +30,11 @@ impl Calls {
 
     // Counts one more call, which fails where it is listed or can't be done.
     pub(crate) fn next(&mut self, can_be_done: bool) -> Result<(), Failed>
-        ensures fails { is_err result ≡ (is_next_listed self.old.fails self.old.count || not can_be_done) }
+        ensures fails { is_err result
+            ≡ (is_next_listed self.old.fails self.old.count || not can_be_done) }
         ensures listed { self.new.fails ≡ self.old.fails }
         ensures count { self.new.count ≡ risen self.old.count }
-        ensures faults { self.new.faults ≡ (if is_ok result then self.old.faults else risen self.old.faults) }
+        ensures faults { self.new.faults ≡ faults_after self.old.faults result }
         ensures cause { HasCause self.old.faults self.new.faults result }
         ensures never_falls { self.old.faults ≤ self.new.faults }
     {

@@ -75,6 +75,9 @@ impl FileMap {
     /// Answers NoMemory where no memory is left; then the map stays as it was.
     pub fn add(&mut self, name: &str, bytes: &[u8]) -> Result<(), NoMemory>
         ensures ok { OnOk result (self.new ≡ (name.now, bytes.now) ∷ self.old) }
+        ensures sets { OnOk result (file_of self.new name.now ≡ Some bytes.now) }
+        ensures others { OnOk result ((other : List ℕ) → other ≢ name.now →
+            file_of self.new other ≡ file_of self.old other) }
         ensures err { OnErr result (self.new ≡ self.old) }
     {
         let alloc = *self.entries.allocator();

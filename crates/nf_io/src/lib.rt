@@ -1,4 +1,14 @@
-//! The outside: sources of named files and sinks of bytes.
+//! The outside of nfer: where its bytes come from and where they go.
+//!
+//! A `Shelf` has named files, of which one at a time is read; a `Sink` takes bytes. Both say in
+//! their contracts what they do as far as they tell it, and answer Failed only where their count
+//! of faults rose. The forms in memory tell everything, and fail exactly at chosen calls or never;
+//! the real forms are the trusted edge, and tell nothing of their content.
+//!
+//! The definitions are those of specs/: the map of the files (Files), what one read gives and what
+//! a sink took (Bytes), causes of failures (Causes), and what a contract sees of the forms in
+//! memory (Memory) and of the real shelf (Real). Below stands want of memory; above stand the
+//! calls that read a whole input and write a whole output.
 #![tactic(auto)]
 
 mod call_list;

@@ -1,8 +1,8 @@
 //! A shelf in memory whose failures are chosen.
-ghost use Rattle.std.specs.Prelude.{◌≡◌, ◌<◌, ◌≤◌, ◌||◌, [], length, take, drop, false, max, Some, None, IfSome, IfOk, OnOk, OnErr, option_map, is_none, is_ok, is_err, if◌then◌else◌, refl};
+ghost use Rattle.std.specs.Prelude.{◌≡◌, ◌<◌, ◌≤◌, ◌||◌, [], length, take, drop, false, max, Some, None, IfSome, IfOk, OnOk, OnErr, option_map, is_none, is_err, refl};
 ghost use Rattle.nf_io.specs.Files.{file_of, asked_of, bytes_of};
 ghost use Rattle.nf_io.specs.Bytes.{Gives};
-ghost use Rattle.nf_io.specs.Causes.{HasCause, risen};
+ghost use Rattle.nf_io.specs.Causes.{HasCause, faults_after, risen};
 ghost use Rattle.nf_io.specs.Memory.{is_next_listed, left_of, read_count};
 
 use crate::call_list::CallList;
@@ -80,7 +80,9 @@ impl Shelf for MemShelf {
     /// Answers Failed exactly where the call is listed or the name is unknown; then no file is
     /// current, and the name is asked for all the same, where it is known.
     fn pick(&mut self, name: &str) -> Result<(), Failed>
-        ensures fails { is_err result ≡ (is_next_listed self.old.fails self.old.calls || is_none (file_of self.old.files name.now)) }
+        ensures fails { is_err result
+            ≡ (is_next_listed self.old.fails self.old.calls
+            || is_none (file_of self.old.files name.now)) }
 
         ensures files { self.new.files ≡ self.old.files }
         ensures most { self.new.most ≡ self.old.most }
@@ -91,7 +93,7 @@ impl Shelf for MemShelf {
         ensures untold { OnErr result (self.new.rest ≡ None) }
 
         ensures calls { self.new.calls ≡ risen self.old.calls }
-        ensures faults { self.new.faults ≡ (if is_ok result then self.old.faults else risen self.old.faults) }
+        ensures faults { self.new.faults ≡ faults_after self.old.faults result }
         ensures failed { self.new.failed ≡ is_err result }
         ensures cause { HasCause self.old.faults self.new.faults result }
         ensures never_falls { self.old.faults ≤ self.new.faults }
@@ -117,7 +119,8 @@ impl Shelf for MemShelf {
         ensures listed { self.new.fails ≡ self.old.fails }
         ensures asked { self.new.asked ≡ self.old.asked }
 
-        ensures count { IfOk result (λ n. n ≡ read_count self.old.most (length buf.old) (left_of self.old.rest)) }
+        ensures count { IfOk result (λ n.
+            n ≡ read_count self.old.most (length buf.old) (left_of self.old.rest)) }
         ensures bytes { IfOk result (λ n. take n buf.new ≡ take n (left_of self.old.rest)) }
         ensures others { IfOk result (λ n. drop n buf.new ≡ drop n buf.old) }
         ensures rest { IfOk result (λ n. self.new.rest ≡ option_map (drop n) self.old.rest) }
@@ -126,7 +129,7 @@ impl Shelf for MemShelf {
         ensures buffer { OnErr result (buf.new ≡ buf.old) }
 
         ensures calls { self.new.calls ≡ risen self.old.calls }
-        ensures faults { self.new.faults ≡ (if is_ok result then self.old.faults else risen self.old.faults) }
+        ensures faults { self.new.faults ≡ faults_after self.old.faults result }
         ensures failed { self.new.failed ≡ is_err result }
         ensures cause { HasCause self.old.faults self.new.faults result }
         ensures never_falls { self.old.faults ≤ self.new.faults }

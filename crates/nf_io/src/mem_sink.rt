@@ -1,8 +1,8 @@
 //! A sink in memory whose failures are chosen.
-ghost use Rattle.std.specs.Prelude.{◌≡◌, ◌<◌, ◌≤◌, ◌&&◌, ◌==◌, [], length, take, min, max, nat_lt, Some, Ok, IfOk, OnErr, is_ok, is_err, if◌then◌else◌};
+ghost use Rattle.std.specs.Prelude.{◌≡◌, ◌<◌, ◌≤◌, ◌&&◌, ◌==◌, [], length, take, min, max, nat_lt, Some, Ok, IfOk, OnErr, is_err, if◌then◌else◌};
 ghost use Rattle.std.specs.Option.{option_copied};
 ghost use Rattle.nf_io.specs.Bytes.{Took};
-ghost use Rattle.nf_io.specs.Causes.{HasCause, risen};
+ghost use Rattle.nf_io.specs.Causes.{HasCause, faults_after, risen};
 ghost use Rattle.nf_io.specs.Memory.{is_next_listed, told_after};
 
 use crate::call_list::CallList;
@@ -79,7 +79,8 @@ impl<'a> Sink for MemSink<'a> {
     /// Answers Failed exactly where the piece isn't empty and the call is listed; then what was
     /// taken stays.
     fn write(&mut self, bytes: &[u8]) -> Result<usize, Failed>
-        ensures fails { is_err result ≡ (nat_lt 0 (length bytes.now) && is_next_listed self.old.fails self.old.calls) }
+        ensures fails { is_err result
+            ≡ (nat_lt 0 (length bytes.now) && is_next_listed self.old.fails self.old.calls) }
         ensures empty { bytes.now ≡ [] → result ≡ Ok 0 }
 
         ensures room { self.new.room ≡ self.old.room }
@@ -89,13 +90,15 @@ impl<'a> Sink for MemSink<'a> {
         ensures count { IfOk result (λ n. n ≡ min self.old.most (length bytes.now)) }
         ensures some { IfOk result (λ n. 0 < length bytes.now → 0 < n) }
         ensures within { IfOk result (λ n. n ≤ length bytes.now) }
-        ensures told { IfOk result (λ n. 0 < n → self.new.taken ≡ told_after self.old.room self.old.taken (take n bytes.now)) }
+        ensures told { IfOk result (λ n. 0 < n →
+            self.new.taken ≡ told_after self.old.room self.old.taken (take n bytes.now)) }
         ensures taken { IfOk result (λ n. Took self.old.taken self.new.taken (take n bytes.now)) }
         ensures stays { bytes.now ≡ [] → self.new.taken ≡ self.old.taken }
         ensures err { OnErr result (self.new.taken ≡ self.old.taken) }
 
-        ensures calls { self.new.calls ≡ (if length bytes.now == 0 then self.old.calls else risen self.old.calls) }
-        ensures faults { self.new.faults ≡ (if is_ok result then self.old.faults else risen self.old.faults) }
+        ensures calls { self.new.calls
+            ≡ (if length bytes.now == 0 then self.old.calls else risen self.old.calls) }
+        ensures faults { self.new.faults ≡ faults_after self.old.faults result }
         ensures cause { HasCause self.old.faults self.new.faults result }
         ensures never_falls { self.old.faults ≤ self.new.faults }
     {

@@ -1,6 +1,6 @@
 //! The shelf of the real files and of standard input. It is the trusted edge.
-ghost use Rattle.std.specs.Prelude.{◌≡◌, ◌<◌, ◌≤◌, false, length, drop, None, IfOk, is_ok, is_err, if◌then◌else◌};
-ghost use Rattle.nf_io.specs.Causes.{HasCause, risen};
+ghost use Rattle.std.specs.Prelude.{◌≡◌, ◌<◌, ◌≤◌, false, length, drop, None, IfOk, is_err};
+ghost use Rattle.nf_io.specs.Causes.{HasCause, faults_after};
 
 use crate::failure::Failed;
 use crate::shelves::Shelf;
@@ -39,14 +39,14 @@ impl<I: Read, F: Read> Source<I, F> {
 /// A contract sees the count of its faults, which rises at each failure and stands still at
 /// 2^64 - 1, and whether its last call failed (`RealShelfState` in specs/Real.antt).
 #[derive(Drop)]
-pub struct RealShelf<'a, R: Files + Input> {
-    rt: &'a R,
+pub struct RealShelf<R: Files + Input> {
+    rt: R,
     source: Source<R::Reader, R::File>,
     faults: u64,
     failed: bool,
 }
 
-impl<'a, R: Files + Input> Model for RealShelf<'a, R> {
+impl<R: Files + Input> Model for RealShelf<R> {
     ghost use Rattle.nf_io.specs.Real.{RealShelfState};
 
     ghost Value = { RealShelfState };
@@ -54,9 +54,10 @@ impl<'a, R: Files + Input> Model for RealShelf<'a, R> {
     ghost view = { λ s. record { faults = s.faults; failed = s.failed } };
 }
 
-impl<'a, R: Files + Input> RealShelf<'a, R> {
-    /// The shelf of the files and of the standard input of `rt`. No file is current yet.
-    pub fn new(rt: &'a R) -> RealShelf<'a, R>
+impl<R: Files + Input> RealShelf<R> {
+    /// The shelf of the files and of the standard input of `rt`, a runtime or a reference to one.
+    /// No file is current yet.
+    pub fn new(rt: R) -> RealShelf<R>
         ensures faults { result.faults ≡ 0 }
         ensures failed { result.failed ≡ false }
     {
@@ -71,7 +72,7 @@ impl<'a, R: Files + Input> RealShelf<'a, R> {
     // Keeps whether this call failed, and counts the failure.
     fn record<T>(&mut self, outcome: Result<T, Failed>) -> Result<T, Failed>
         ensures same { result ≡ outcome }
-        ensures faults { self.new.faults ≡ (if is_ok outcome then self.old.faults else risen self.old.faults) }
+        ensures faults { self.new.faults ≡ faults_after self.old.faults outcome }
         ensures failed { self.new.failed ≡ is_err outcome }
         ensures cause { HasCause self.old.faults self.new.faults outcome }
         ensures never_falls { self.old.faults ≤ self.new.faults }
@@ -87,7 +88,7 @@ impl<'a, R: Files + Input> RealShelf<'a, R> {
         if name == "-" {
             return Ok(Source::Input(self.rt.reader()));
         }
-        match fs::open(self.rt, name) {
+        match fs::open(&self.rt, name) {
             Ok(file) => Ok(Source::File(file)),
             Err(_) => Err(Failed),
         }
@@ -97,7 +98,7 @@ impl<'a, R: Files + Input> RealShelf<'a, R> {
 // How many bytes one read asks for at most.
 const PIECE: usize = 8192;
 
-impl<'a, R: Files + Input> Shelf for RealShelf<'a, R> {
+impl<R: Files + Input> Shelf for RealShelf<R> {
     ghost files = { λ _. None };
 
     ghost asked = { λ _. None };
@@ -111,7 +112,12 @@ impl<'a, R: Files + Input> Shelf for RealShelf<'a, R> {
     /// Opens the file of this name, or standard input.
     ///
     /// Answers Failed where the file can't be opened; then no file is current.
-    fn pick(&mut self, name: &str) -> Result<(), Failed> {
+    fn pick(&mut self, name: &str) -> Result<(), Failed>
+        ensures faults { self.new.faults ≡ faults_after self.old.faults result }
+        ensures failed { self.new.failed ≡ is_err result }
+        ensures cause { HasCause self.old.faults self.new.faults result }
+        ensures never_falls { self.old.faults ≤ self.new.faults }
+    {
         self.source = Source::Nothing;
         match self.open(name) {
             Ok(source) => {
@@ -126,7 +132,15 @@ impl<'a, R: Files + Input> Shelf for RealShelf<'a, R> {
     /// how many bytes these are; 0 is the end of the file.
     ///
     /// Answers Failed where the read fails or no file is current.
-    fn read(&mut self, buf: &mut [u8]) -> Result<usize, Failed> {
+    fn read(&mut self, buf: &mut [u8]) -> Result<usize, Failed>
+        requires { 0 < length buf.old }
+        ensures within { IfOk result (λ n. n ≤ length buf.new) }
+        ensures others { IfOk result (λ n. drop n buf.new ≡ drop n buf.old) }
+        ensures faults { self.new.faults ≡ faults_after self.old.faults result }
+        ensures failed { self.new.failed ≡ is_err result }
+        ensures cause { HasCause self.old.faults self.new.faults result }
+        ensures never_falls { self.old.faults ≤ self.new.faults }
+    {
         let mut piece = [0; PIECE];
         let most = buf.len().min(PIECE);
         let outcome = self.source.read(&mut piece[..most]);

@@ -1,6 +1,6 @@
 //! The sink of a real writer. It is the trusted edge.
-ghost use Rattle.std.specs.Prelude.{◌≡◌, ◌<◌, ◌≤◌, [], length, take, None, Ok, IfOk, OnErr, is_ok, if◌then◌else◌};
-ghost use Rattle.nf_io.specs.Causes.{HasCause, risen};
+ghost use Rattle.std.specs.Prelude.{◌≡◌, ◌<◌, ◌≤◌, [], length, take, None, Ok, IfOk, OnErr};
+ghost use Rattle.nf_io.specs.Causes.{HasCause, faults_after};
 
 use crate::failure::Failed;
 use crate::sinks::Sink;
@@ -58,7 +58,7 @@ impl<W: Write> Sink for RealSink<W> {
         ensures empty { bytes.now ≡ [] → result ≡ Ok 0 }
         ensures some { IfOk result (λ n. 0 < length bytes.now → 0 < n) }
         ensures within { IfOk result (λ n. n ≤ length bytes.now) }
-        ensures faults { self.new ≡ (if is_ok result then self.old else risen self.old) }
+        ensures faults { self.new ≡ faults_after self.old result }
         ensures cause { HasCause self.old self.new result }
         ensures never_falls { self.old ≤ self.new }
     {

@@ -30,10 +30,12 @@ pub trait Shelf {
     /// specs/Files.antt).
     fn pick(&mut self, name: &str) -> Result<(), Failed>
         ensures files { files self.new ≡ files self.old }
-        ensures asked { IfSome (files self.old) (λ files. asked self.new ≡ Some (asked_of files name.now)) }
+        ensures asked { IfSome (files self.old) (λ files.
+            asked self.new ≡ Some (asked_of files name.now)) }
 
         // The bytes of the file are left, and none where there is no such file.
-        ensures rest { OnOk result (IfSome (files self.old) (λ files. rest self.new ≡ Some (bytes_of files name.now))) }
+        ensures rest { OnOk result (IfSome (files self.old) (λ files.
+            rest self.new ≡ Some (bytes_of files name.now))) }
         ensures untold { OnErr result (rest self.new ≡ None) }
 
         ensures failed { failed self.new ≡ is_err result }

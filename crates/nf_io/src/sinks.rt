@@ -1,6 +1,6 @@
 //! Sinks of bytes.
 ghost use Rattle.std.specs.Prelude.{◌≡◌, ℕ, ◌<◌, ◌≤◌, List, [], length, take, Option, IfOk, OnOk, OnErr};
-ghost use Rattle.nf_io.specs.Bytes.{Took, TookPrefix};
+ghost use Rattle.nf_io.specs.Bytes.{Took, TookPart};
 ghost use Rattle.nf_io.specs.Causes.{HasCause};
 
 use crate::failure::Failed;
@@ -36,7 +36,7 @@ pub trait Sink {
 /// Answers Failed only where the count of faults rose; then the sink took a prefix of the bytes.
 pub fn write_all<O: Sink>(out: &mut O, bytes: &[u8]) -> Result<(), Failed>
     ensures ok { OnOk result (Took (O.taken out.old) (O.taken out.new) bytes.now) }
-    ensures err { OnErr result (TookPrefix (O.taken out.old) (O.taken out.new) bytes.now) }
+    ensures err { OnErr result (TookPart (O.taken out.old) (O.taken out.new) bytes.now) }
     ensures cause { HasCause (O.faults out.old) (O.faults out.new) result }
     ensures never_falls { O.faults out.old ≤ O.faults out.new }
 {

@@ -70,7 +70,8 @@ impl SureShelf {
         ensures files { self.new.files ≡ self.old.files }
         ensures most { self.new.most ≡ self.old.most }
         ensures asked { self.new.asked ≡ (entry_at self.old.files place).0 }
-        ensures rest { self.new.rest ≡ (if is_opened then Some (entry_at self.old.files place).1 else None) }
+        ensures rest { self.new.rest
+            ≡ (if is_opened then Some (entry_at self.old.files place).1 else None) }
     {
         self.place = place;
         self.from = if is_opened { Some(0) } else { None };
@@ -132,7 +133,8 @@ impl Shelf for SureShelf {
         ensures files { self.new.files ≡ self.old.files }
         ensures most { self.new.most ≡ self.old.most }
         ensures asked { self.new.asked ≡ self.old.asked }
-        ensures count { IfOk result (λ n. n ≡ read_count self.old.most (length buf.old) (left_of self.old.rest)) }
+        ensures count { IfOk result (λ n.
+            n ≡ read_count self.old.most (length buf.old) (left_of self.old.rest)) }
         ensures bytes { IfOk result (λ n. take n buf.new ≡ take n (left_of self.old.rest)) }
         ensures others { IfOk result (λ n. drop n buf.new ≡ drop n buf.old) }
         ensures rest { IfOk result (λ n. self.new.rest ≡ option_map (drop n) self.old.rest) }

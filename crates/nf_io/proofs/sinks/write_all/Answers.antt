@@ -1,5 +1,6 @@
-use Rattle.std.proofs.Common.{arith}
+use Rattle.std.proofs.Common.{arith, rules}
 use Rattle.nf_io.proofs.Pieces.{Took-next, next_within}
+use Rattle.nf_io.specs.Bytes.{TookPart-take}
 use Rattle.nf_io.proofs.sinks.write_all.Goals as goal
 
 pub pieces-preserved : goal.pieces-preserved
@@ -10,3 +11,8 @@ pieces-preserved g c =
       took = Took-next _ _ _ c.args.bytes.now c.pieces.from c.in_ok-from.field-0 c.pieces.invariant.took e.taken;
       later = omega (arith, e.never_falls);
     }
+
+pub returns-in_err-from-clause-err : goal.returns-in_err-from-clause-err
+returns-in_err-from-clause-err g c =
+    let part = TookPart-take (g.O.Sink.taken c.args.out.now) (g.O.Sink.taken c.pieces.out) c.pieces.from c.args.bytes.now c.pieces-test.true c.pieces.invariant.took in
+    search (rules, part)
