@@ -1,5 +1,5 @@
 -- What the pools of heads lose and gain between two inputs.
-use Rattle.std.specs.Prelude.{ℕ, Bool, not, List, map, filter, flat_map, length, slice_set}
+use Rattle.std.specs.Prelude.{ℕ, Bool, not, List, [], map, filter, flat_map, length, replicate, slice_set}
 use Rattle.std.specs.List.{range_with_len}
 use Rattle.nf_core.specs.Intervals.{Interval}
 use Rattle.nf_core.specs.Sets.{has, inserted}
@@ -13,6 +13,10 @@ pub record Content : Type 0 where
   pub plan : Plan
   pub full : Bool
   pub inputs : Inputs
+
+-- the content of a plan before anything was entered
+abbrev pub no_inputs : Plan → Bool → Content
+no_inputs plan full = record { plan = plan; full = full; inputs = replicate (length plan.names) [] }
 
 -- the pool of a name
 abbrev pub pool_of : Content → ℕ → List Interval

@@ -1,5 +1,5 @@
 -- The results of a rule over whole lists of intervals, by all pairs.
-use Rattle.std.specs.Prelude.{ℕ, ℤ, int_le, Bool, true, false, not, ◌&&◌, ◌==◌, List, [], map, filter, find, flat_map, filter_map, Option, Some, None, option_and_then, option_to_list, if◌then◌else◌}
+use Rattle.std.specs.Prelude.{ℕ, ℤ, int_le, Bool, true, false, not, ◌&&◌, ◌==◌, List, map, filter, find, flat_map, filter_map, Option, Some, None, option_and_then, if◌then◌else◌}
 use Rattle.std.specs.List.{list_any, range_with_len}
 use Rattle.nf_core.specs.Relations.{holds, span, blocks}
 use Rattle.nf_core.specs.Expressions.{value_of}

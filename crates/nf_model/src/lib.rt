@@ -2,4 +2,15 @@
 //! each step.
 #![tactic(auto)]
 
-pub fn nothing() {}
+mod changes;
+mod evaluation;
+mod inferers;
+mod judging;
+mod laws;
+mod relations;
+mod results;
+mod scratches;
+
+pub use inferers::Inferer;
+pub use laws::{plans_of_built_rules_are_built, pools_are_judged_candidates};
+pub use scratches::Scratch;

@@ -1,1 +1,7 @@
+pub mod Ascii
+pub mod Cuts
+pub mod Ordered
+pub mod Returns
 pub mod FileBytes
+pub mod Changed
+pub mod Answered

@@ -1,10 +1,10 @@
 -- The defined answer to the words and the files, and how the end of a call stands to it.
-use Rattle.std.specs.Prelude.{◌≡◌, ℕ, ◌+◌, ◌≤◌, ◌<◌, Bool, true, false, nat_lt, List, [], ◌++◌, take, drop, length, Option, Some, None, IfSome, IsSomeAnd, ⊤, IsTrue, if◌then◌else◌}
+use Rattle.std.specs.Prelude.{◌≡◌, ℕ, ◌+◌, ◌≤◌, ◌<◌, Bool, true, false, nat_lt, List, [], drop, length, Option, Some, None, IfSome, ⊤, IsTrue, if◌then◌else◌}
 use Rattle.nf_core.specs.Plan.{Plan}
 use Rattle.nf_core.specs.declared.trees.Rule.{Rule}
 use Rattle.nf_io.specs.Files.{Files, bytes_of, asked_of}
 use Rattle.nf_io.specs.Causes.{Rose}
-use Rattle.nf_io.specs.Bytes.{Took, TookPrefix}
+use Rattle.nf_io.specs.Bytes.{Took, TookPart, TookPrefix}
 use Rattle.nfer_cli.specs.Words.{Asked, Follow, asked, file_words, file_word, trace_word}
 use Rattle.nfer_cli.specs.Specification.{specification_limit, rules_of, IsPlanOf}
 use Rattle.nfer_cli.specs.Trace.{Ending, Done, Refused, Refusal, InNoForm, Falls, trace}
@@ -78,10 +78,6 @@ EndsFor (status.ReadFault place) defined = is_known_before place defined ≡ fal
 EndsFor status.WriteFault defined = ⊤
 EndsFor status.NoMemory defined = ⊤
 EndsFor result defined = result ≡ defined
-
--- a sink took a part of a text in between, less than the whole
-abbrev pub TookPart : Option (List ℕ) → Option (List ℕ) → List ℕ → Type 0
-TookPart before now text = IfSome now (λ after. IsSomeAnd before (λ first. (k : ℕ) × (k < length text) × (after ≡ first ++ take k text)))
 
 -- what was taken of the defined text: less than the whole where a write failed, a prefix where a read failed or memory was wanted, else the whole
 abbrev pub Wrote : Status → Option (List ℕ) → Option (List ℕ) → List ℕ → Type 0

@@ -4,7 +4,7 @@ use Rattle.std.specs.List.{range_with_len}
 use Rattle.std.specs.Map.{lookup}
 use Rattle.nf_core.specs.declared.values.Value as value
 use Rattle.nf_core.specs.Plan.{Plan, keys_of}
-use Rattle.nf_model.specs.Changes.{Content, with_input, change}
+use Rattle.nf_model.specs.Changes.{Content, with_input, change, no_inputs}
 use Rattle.nfer_cli.specs.Announcements.{change_text}
 use Rattle.nfer_cli.specs.Trace.{Event}
 
@@ -19,10 +19,6 @@ entered_at content event (Some n) = with_input n (record { start = event.time; s
 
 abbrev pub entered : Content → Event → Content
 entered content event = entered_at content event (position (bytes_eq event.name) content.plan.names)
-
--- the content without inputs
-abbrev pub no_inputs : Plan → Bool → Content
-no_inputs plan full = record { plan = plan; full = full; inputs = map (λ name. []) plan.names }
 
 -- the content after some events
 unfoldable pub content_after : Plan → Bool → List Event → Content

@@ -1,6 +1,8 @@
 pub mod Lines
 pub mod Announcements
+pub mod AnnouncementOrder
 pub mod Trace
+pub mod Readings
 pub mod Follow
 pub mod Replay
 pub mod Specification
@@ -10,3 +12,5 @@ pub mod Statuses
 pub mod Messages
 pub mod Answers
 pub mod Reading
+pub mod Results
+pub mod Progress

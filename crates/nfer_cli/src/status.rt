@@ -2,6 +2,9 @@
 
 ghost use Rattle.std.specs.Prelude.{◌≡◌};
 ghost use Rattle.nfer_cli.specs.Statuses.{code_of};
+ghost use Rattle.nfer_cli.specs.declared.status.Status.TheVariants.{NoMemory as no_memory};
+
+use nf_core::NoMemory;
 
 /// How a call ended. A status carries what its message shows.
 #[derive(Debug, Clone, Copy, PartialEq, Eq)]
@@ -42,5 +45,13 @@ impl Status {
             Status::WriteFault => 5,
             Status::NoMemory => 6,
         }
+    }
+}
+
+impl From<NoMemory> for Status {
+    ghost from_gives = { λ _ status. status ≡ no_memory };
+
+    fn from(_error: NoMemory) -> Status {
+        Status::NoMemory
     }
 }

@@ -1,0 +1,36 @@
+-- Lists that grow by one item's part at a time.
+use Rattle.std.proofs.Common.{◌≡◌, ℕ, ◌+◌, Bool, true, false, cond, List, [], ◌∷◌, ◌++◌, take, map, filter, Some, refl, ap, sym, ◌∙◌, append_assoc, arith, if◌then◌else◌, slice_get}
+use Rattle.std.specs.List.{range_with_len, flat_map}
+use Rattle.std.proofs.lemmas.List.{append-nil, take_more, map-id}
+use Rattle.std.proofs.lemmas.List.Elements.{filter-append}
+use Rattle.std.proofs.lemmas.List.FromFn.{map-range_with_len_more}
+use Rattle.std.proofs.lemmas.Grind.{flat_map-append}
+use Rattle.std.proofs.lemmas.Option.{slice_get_within, get_or_from_slice_get}
+
+-- one more number, and what is made of it
+pub made_more : {X : Type 0} (f : ℕ → X) (n : ℕ) → map f (range_with_len 0 (n + 1)) ≡ map f (range_with_len 0 n) ++ f n ∷ []
+made_more f n = map-range_with_len_more f 0 n n (omega arith)
+
+-- one more number
+pub numbers_more : (n : ℕ) → range_with_len 0 (n + 1) ≡ range_with_len 0 n ++ n ∷ []
+numbers_more n =
+    sym (map-id (range_with_len 0 (n + 1))) ∙ made_more (λ m. m) n ∙ ap (λ (ns : List ℕ). ns ++ n ∷ []) (map-id (range_with_len 0 n))
+
+-- one more item
+pub items_more : {X : Type 0} (xs : List X) (i : ℕ) (x : X) → slice_get xs i ≡ Some x → take (i + 1) xs ≡ take i xs ++ x ∷ []
+items_more xs i x is =
+    take_more xs i x (slice_get_within xs i x is) ∙ ap (λ y. take i xs ++ y ∷ []) (get_or_from_slice_get xs i x x is)
+
+-- what one item gives, where it passes a test
+one_filtered : {X Y : Type 0} (f : X → List Y) (p : X → Bool) (x : X) → flat_map f (filter p (x ∷ [])) ≡ (if p x then f x else [])
+one_filtered f p x = elim (p x) as (λ b. flat_map f (cond b (x ∷ []) []) ≡ (if b then f x else [])) [ true ↦ append-nil (f x) | false ↦ refl ]
+
+-- a list of what the items that pass a test give, after one more item
+pub filtered_more : {X Y : Type 0} (f : X → List Y) (p : X → Bool) (begun so_far more : List Y) (xs ys : List X) (x : X) → ys ≡ xs ++ x ∷ []
+    → so_far ≡ begun ++ flat_map f (filter p xs) → more ≡ so_far ++ (if p x then f x else []) → more ≡ begun ++ flat_map f (filter p ys)
+filtered_more f p begun so_far more xs ys x next so step =
+    let parts : flat_map f (filter p ys) ≡ flat_map f (filter p xs) ++ (if p x then f x else []) =
+    ap (λ zs. flat_map f (filter p zs)) next ∙ ap (flat_map f) (filter-append p xs (x ∷ [])) ∙ flat_map-append f (filter p xs) (filter p (x ∷ []))
+    ∙ ap (λ zs. flat_map f (filter p xs) ++ zs) (one_filtered f p x) in
+    step ∙ ap (λ zs. zs ++ (if p x then f x else [])) so ∙ append_assoc begun (flat_map f (filter p xs)) (if p x then f x else [])
+    ∙ ap (λ zs. begun ++ zs) (sym parts)

@@ -1,0 +1,5 @@
+use Rattle.nf_model.specs.PoolLaws.{pool_is_judged}
+use Rattle.nf_model.proofs.laws.pools_are_judged_candidates.Goals as goal
+
+pub returns : goal.returns
+returns c = λ plan full inputs n valid within. pool_is_judged plan full inputs n valid within

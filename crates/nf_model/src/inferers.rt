@@ -1,0 +1,40 @@
+//! What an evaluator of a plan's rules offers.
+
+ghost use Rattle.std.specs.Prelude.{◌≡◌, ◌<◌, length, IfOk};
+ghost use Rattle.nf_core.specs.Plan.{keys_of};
+ghost use Rattle.nf_core.specs.Sets.{IsSet};
+ghost use Rattle.nf_model.specs.Changes.{Content, with_input, change, pool_of};
+
+use nf_core::{Change, Held, Interval, NoMemory, Steps};
+use std::alloc::Global;
+use std::sync::ledger::Ledger;
+
+/// An evaluator of a plan's rules over the intervals that were entered so far.
+///
+/// Contracts see its content: a plan, whether minimality is off, and for each name its inputs,
+/// ascending and each once (`Content` of specs/Changes).
+pub trait Inferer: Sized {
+    ghost content: { Self → Content };
+
+    /// Enters an interval under the name with a number, once, and answers what the held intervals
+    /// of the heads lost and gained. Where memory is wanted nothing is left: the evaluator is gone.
+    fn step<L: Ledger>(
+        self,
+        alloc: Global,
+        name: u32,
+        interval: Interval,
+        steps: &mut Steps<L>,
+    ) -> Result<(Self, Change), NoMemory>
+        requires name { name < length (content self).plan.names }
+        requires row { length interval.row ≡ length (keys_of (content self).plan name) }
+        ensures content { IfOk result (λ r. content r.0 ≡ with_input name interval (content self)) }
+        ensures change { IfOk result (λ r. r.1
+            ≡ change (content self) (with_input name interval (content self))) };
+
+    /// The held intervals of the name with a number, as borrows, ascending, each once (`pool` of
+    /// specs/Pools). Takes no memory.
+    fn held(&self, name: u32) -> Held<'_>
+        requires { name < length (content self.now).plan.names }
+        ensures pool { result ≡ pool_of (content self.now) name }
+        ensures sorted { IsSet result };
+}

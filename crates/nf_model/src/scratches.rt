@@ -1,0 +1,91 @@
+//! The slow evaluator.
+
+ghost use Rattle.std.specs.Prelude.{◌≡◌, All, IfOk};
+ghost use Rattle.nf_model.specs.Built.{IsBuilt};
+ghost use Rattle.nf_model.specs.Changes.{no_inputs};
+
+use crate::changes::change_of;
+use crate::evaluation::{empty_sets, pools_of};
+use crate::inferers::Inferer;
+use nf_core::{Change, Held, Interval, IntervalSet, NoMemory, Plan, Steps, TryCopy};
+use std::alloc::Global;
+use std::marker::Model;
+use std::sync::ledger::Ledger;
+
+/// An evaluator that keeps what was entered and computes all pools anew at each step. Contracts
+/// see its content (`Content` of specs/Changes).
+#[derive(Debug, Drop)]
+pub struct Scratch {
+    plan: Plan,
+    full: bool,
+    inputs: Vec<IntervalSet>,
+    pools: Vec<IntervalSet>,
+}
+
+impl Model for Scratch {
+    ghost use Rattle.nf_core.specs.contracts.terms.Term as term;
+    ghost use Rattle.nf_model.specs.Changes as spec;
+    ghost use Rattle.std.specs.Coded.{codes};
+
+    ghost Value = { spec.Content };
+
+    ghost coded = { Prim.hlevel (codes, term.the_row.coded) };
+
+    ghost use Rattle.nf_model.specs.Known.{IsEvaluated};
+
+    ghost view = { λ s. record { plan = s.plan; full = s.full; inputs = s.inputs.items } };
+
+    ghost invariant = { λ s. IsEvaluated s.plan s.full s.inputs.items s.pools.items };
+}
+
+impl Scratch {
+    /// The evaluator of a plan, without inputs. Under `full` every candidate is held. The plan is
+    /// copied. Its rules are of one atom or of two by `before`, and have no clauses.
+    pub fn new(alloc: Global, plan: &Plan, full: bool) -> Result<Scratch, NoMemory>
+        requires built { All IsBuilt plan.now.rules }
+        ensures content { IfOk result (λ scratch. scratch ≡ no_inputs plan.now full) }
+    {
+        let inputs = empty_sets(alloc, plan.names())?;
+        let plan = plan.copy(alloc)?;
+        let pools = pools_of(alloc, &plan, full, inputs.as_slice())?;
+        Ok(Scratch {
+            plan,
+            full,
+            inputs,
+            pools,
+        })
+    }
+}
+
+impl Inferer for Scratch {
+    ghost content = { λ s. s };
+
+    fn step<L: Ledger>(
+        self,
+        alloc: Global,
+        name: u32,
+        interval: Interval,
+        _steps: &mut Steps<L>,
+    ) -> Result<(Scratch, Change), NoMemory> {
+        let Scratch {
+            plan,
+            full,
+            mut inputs,
+            pools: before,
+        } = self;
+        inputs[name as usize].insert(interval)?;
+        let pools = pools_of(alloc, &plan, full, inputs.as_slice())?;
+        let change = change_of(alloc, &plan, before.as_slice(), pools.as_slice())?;
+        let scratch = Scratch {
+            plan,
+            full,
+            inputs,
+            pools,
+        };
+        Ok((scratch, change))
+    }
+
+    fn held(&self, name: u32) -> Held<'_> {
+        self.pools[name as usize].walk()
+    }
+}
