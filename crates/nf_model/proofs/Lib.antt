@@ -1,3 +1,4 @@
 pub mod Lists
 pub mod Levels
 pub mod Heads
+pub mod Example

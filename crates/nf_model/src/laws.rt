@@ -13,13 +13,11 @@ pub fn pools_are_judged_candidates()
     ensures { (plan : Plan) (full : Bool) (inputs : Inputs) (n : ℕ) → IsPlan plan
         → n < length plan.names
         → pool plan full inputs n ≡ judged full (candidates plan full inputs n) }
-{
-}
+{}
 
 /// A plan that is made of rules of one atom or of two by `before`, without clauses, has such rules
 /// alone.
 pub fn plans_of_built_rules_are_built()
     ensures { (rules : List Rule) (levels : Levels) → All IsBuiltAsWritten rules
         → All IsBuilt (plan_of rules levels).rules }
-{
-}
+{}

@@ -10,6 +10,8 @@ mod laws;
 mod relations;
 mod results;
 mod scratches;
+#[cfg(test)]
+mod tests;
 
 pub use inferers::Inferer;
 pub use laws::{plans_of_built_rules_are_built, pools_are_judged_candidates};

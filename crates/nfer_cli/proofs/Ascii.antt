@@ -1,66 +1,54 @@
--- A line in the form of an event is ASCII, and so it is a text.
-use Rattle.std.proofs.Common.{◌≡◌, ℕ, ◌<◌, Bool, true, false, eqb, leb, cond, ◌&&◌, ◌||◌, List, [], ◌∷◌, ◌++◌, refl, subst, sym, arith, Option, Some, None, ℤ, pos, ◌⊎◌, ⊎_elim}
-use Rattle.std.specs.List.{All, list_all, join_with_byte}
-use Rattle.std.specs.Str.{IsUtf8}
-use Rattle.std.specs.Str.Parse.{digits_value}
-use Rattle.std.specs.Char.{is_ascii_digit}
-use Rattle.std.proofs.lemmas.Bool.{and_parts, or_cases, false_from_ne_true, leb-true, eqb-true}
-use Rattle.std.proofs.lemmas.List.Elements.{All-append, All-nil, All-cons}
+-- Identifiers are ASCII.
+use Rattle.std.proofs.Common.{◌≡◌, ℕ, ◌<◌, Bool, true, false, cond, not, ◌&&◌, ◌||◌, ◌==◌, nat_lt, nat_le, List, [], ◌∷◌, ◌++◌, length, bytes_eq, codes, eqb, Option, Some, None, option_map, option_and_then, refl, ap, sym, ◌∙◌, subst, arith, lit<, if◌then◌else◌}
+use Rattle.std.specs.List.{list_all, list_any, slice_split, join_with_byte}
+use Rattle.std.specs.Str.{IsAscii, IsUtf8}
+use Rattle.std.proofs.lemmas.Bool.{ltb-true}
+use Rattle.std.proofs.lemmas.Bool.Decides.{nat_tests}
+use Rattle.std.proofs.lemmas.Slice.Eq.{bytes_eq-Decides}
 use Rattle.std.proofs.lemmas.List.Splits.{join_with_byte-slice_split}
-use Rattle.std.proofs.lemmas.Str.{IsUtf8-from_ascii}
-use Rattle.std.proofs.lemmas.Str.Ascii.{IsAscii-from_all, IsAscii-nil}
-use Rattle.nf_core.specs.Identifiers.{is_letter, is_digit, has_name_form}
+use Rattle.std.proofs.lemmas.Str.{IsAscii-append, IsUtf8-from_ascii}
+use Rattle.std.proofs.lemmas.Str.Ascii.{IsAscii-nil, IsAscii-cons}
+use Rattle.nf_core.specs.declared.trees.Rule.{Rule}
+use Rattle.nf_core.specs.Identifiers.{is_letter, is_digit, has_name_form, is_identifier, keywords}
 use Rattle.nf_text.specs.Fields.{fields_of}
-use Rattle.nf_text.specs.Time.{is_time, time_of}
-use Rattle.nfer_cli.specs.Trace.{Line, Unbuilt, event_of, event_from, line_within}
+use Rattle.nfer_cli.proofs.Bools.{both}
+use Rattle.nfer_cli.specs.Specification.{rule_of_words, rule_of, rules_of_pieces, rules_of, ordered_rules}
 
--- letters and digits are ASCII
-letter_low : (b : ℕ) → is_letter b ≡ true → b < 128
-letter_low b h = ⊎_elim
-    (λ h. ⊎_elim
-    (λ h. omega (arith, leb-true b 90 (and_parts (leb 65 b) (leb b 90) h).1))
-    (λ h. omega (arith, leb-true b 122 (and_parts (leb 97 b) (leb b 122) h).1))
-    (or_cases (leb 65 b && leb b 90) (leb 97 b && leb b 122) h))
-    (λ e. omega (arith, eqb-true b 95 e))
-    (or_cases ((leb 65 b && leb b 90) || (leb 97 b && leb b 122)) (eqb b 95) h)
+ascii_tested : (bs : List ℕ) → list_all (λ b. nat_lt b 128) bs ≡ true → IsAscii bs
+ascii_tested [] e = IsAscii-nil
+ascii_tested (b ∷ bs) e = let p = both (nat_lt b 128) (list_all (λ b. nat_lt b 128) bs) e in IsAscii-cons b bs (ltb-true b 128 p.0) (ascii_tested bs p.1)
 
-digit_low : (b : ℕ) → is_digit b ≡ true → b < 128
-digit_low b h = omega (arith, leb-true b 57 (and_parts (leb 48 b) (leb b 57) h).1)
+letter_ascii : (b : ℕ) → is_letter b ≡ true → b < 128
+letter_ascii b e = grind (arith, nat_tests)
 
-passed : (p : ℕ → Bool) → ((b : ℕ) → p b ≡ true → b < 128) → (bytes : List ℕ) → list_all p bytes ≡ true → All (λ b. b < 128) bytes
-passed p low [] h = All-nil (λ b. b < 128)
-passed p low (b ∷ bytes) h = let parts = and_parts (p b) (list_all p bytes) h in All-cons (λ b. b < 128) b bytes (low b parts.0) (passed p low bytes parts.1)
+inner_ascii : (b : ℕ) → (is_letter b || is_digit b) ≡ true → b < 128
+inner_ascii b e = grind (arith, nat_tests)
 
-name_low : (name : List ℕ) → has_name_form name ≡ true → All (λ b. b < 128) name
+inners_ascii : (bs : List ℕ) → list_all (λ b. is_letter b || is_digit b) bs ≡ true → IsAscii bs
+inners_ascii [] e = IsAscii-nil
+inners_ascii (b ∷ bs) e = let p = both (is_letter b || is_digit b) (list_all (λ b. is_letter b || is_digit b) bs) e in IsAscii-cons b bs (inner_ascii b p.0) (inners_ascii bs p.1)
+
+-- what has the form of a name is ASCII
+pub form_ascii : (text : List ℕ) → has_name_form text ≡ true → IsAscii text
 unfolding has_name_form
-name_low [] h = All-nil (λ b. b < 128)
-name_low (b ∷ bytes) h =
-    let parts = and_parts (is_letter b) (list_all (λ b. is_letter b || is_digit b) bytes) h in
-    All-cons (λ b. b < 128) b bytes (letter_low b parts.0)
-    (passed (λ b. is_letter b || is_digit b) (λ b h. ⊎_elim (letter_low b) (digit_low b) (or_cases (is_letter b) (is_digit b) h)) bytes parts.1)
+form_ascii [] e = cc
+form_ascii (b ∷ bs) e = let p = both (is_letter b) (list_all (λ b. is_letter b || is_digit b) bs) e in IsAscii-cons b bs (letter_ascii b p.0) (inners_ascii bs p.1)
 
-time_low : (time : List ℕ) → is_time time ≡ true → All (λ b. b < 128) time
-time_low time h = passed is_ascii_digit digit_low time (and_parts _ _ (and_parts _ _ (and_parts _ _ h).0).0).0
+-- identifiers are ASCII
+pub identifier_ascii : (text : List ℕ) → is_identifier text ≡ true → IsAscii text
+unfolding is_identifier
+identifier_ascii text e = form_ascii text (both (has_name_form text) (not (list_any (λ word. bytes_eq word text) keywords)) e).0
 
-event_text : (name time : List ℕ) → has_name_form name ≡ true → is_time time ≡ true → IsUtf8 (name ++ 124 ∷ time)
-event_text name time n t = IsUtf8-from_ascii _ (IsAscii-from_all _ (All-append (λ b. b < 128) name (124 ∷ time) (name_low name n) (All-cons (λ b. b < 128) 124 time (omega arith) (time_low time t))))
+-- all of some texts are ASCII
+abbrev pub AreAscii : List (List ℕ) → Type 0
+AreAscii [] = Unit {0}
+AreAscii (text ∷ texts) = IsAscii text × AreAscii texts
 
--- a name without the form, or without a time, is no event
-unnamed : (name : List ℕ) (t : Bool) (v : ℤ) → (has_name_form name ≡ true → t ≡ true → ⊥) → event_of name (cond t (Some v) None) ≡ Unbuilt
-unnamed name true v fails = rw (false_from_ne_true (has_name_form name) (λ n. fails n refl)) refl
-unnamed name false v fails = refl
+pub joined_ascii : (mark : ℕ) → mark < 128 → (texts : List (List ℕ)) → AreAscii texts → IsAscii (join_with_byte mark texts)
+joined_ascii mark low [] h = IsAscii-nil
+joined_ascii mark low (x ∷ []) h = h.0
+joined_ascii mark low (x ∷ y ∷ texts) h = IsAscii-append x (mark ∷ join_with_byte mark (y ∷ texts)) h.0 (IsAscii-cons mark (join_with_byte mark (y ∷ texts)) low (joined_ascii mark low (y ∷ texts) h.1))
 
-fields_unbuilt : (fields : List (List ℕ)) → ¬ IsUtf8 (join_with_byte 124 fields) → event_from fields ≡ Unbuilt
-unfolding time_of
-fields_unbuilt [] fails = refl
-fields_unbuilt (name ∷ []) fails = refl
-fields_unbuilt (name ∷ time ∷ []) fails = unnamed name (is_time time) (pos (digits_value 10 time)) (λ n t. fails (event_text name time n t))
-fields_unbuilt (name ∷ time ∷ more ∷ fields) fails = refl
-
--- what isn't UTF-8 is no event, and no line
-bytes_unbuilt : (bytes : List ℕ) → ¬ IsUtf8 bytes → event_from (fields_of 124 bytes) ≡ Unbuilt
-bytes_unbuilt bytes fails = fields_unbuilt (fields_of 124 bytes) (subst (λ text. ¬ IsUtf8 text) (sym (join_with_byte-slice_split 124 bytes)) fails)
-
-pub line_unbuilt : (bytes : List ℕ) → ¬ IsUtf8 bytes → line_within bytes ≡ Unbuilt
-line_unbuilt [] fails = absurd (fails (IsUtf8-from_ascii [] IsAscii-nil))
-line_unbuilt (b ∷ bytes) fails = bytes_unbuilt (b ∷ bytes) fails
+-- a word that is one of ASCII
+pub word_ascii : (word known : List ℕ) → list_all (λ b. nat_lt b 128) known ≡ true → bytes_eq word known ≡ true → IsAscii word
+word_ascii word known low e = subst IsAscii (sym ((bytes_eq-Decides word known).0 e)) (ascii_tested known low)

@@ -1,6 +1,4 @@
 -- The order of announcements is total, and equal announcements are the same.
-use Rattle.std.specs.Prelude.{◌≡◌}
-use Rattle.std.specs.declared.cmp.Ordering.TheVariants.{Equal}
 use Rattle.std.specs.Cmp.{IsTotalOrder, then_total, on_total, int_cmp_total}
 use Rattle.std.specs.Cmp.Lexicographic.{nat_list_cmp_total}
 use Rattle.nfer_cli.specs.Announcements.{Announcement, announcement_cmp}

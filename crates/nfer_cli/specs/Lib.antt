@@ -1,11 +1,14 @@
 pub mod Lines
 pub mod Announcements
 pub mod AnnouncementOrder
+pub mod Cells
 pub mod Trace
 pub mod Readings
 pub mod Follow
 pub mod Replay
 pub mod Specification
+pub mod RuleLevels
+pub mod ReadPlan
 pub mod Words
 pub mod Commands
 pub mod Statuses
@@ -14,3 +17,4 @@ pub mod Answers
 pub mod Reading
 pub mod Results
 pub mod Progress
+pub mod Example

@@ -3,18 +3,28 @@
 
 mod announced;
 mod announcements;
+mod data_text;
 mod following;
+mod heads;
+mod identifiers;
 mod messages;
 mod pieces;
+mod planning;
 mod reading;
+mod rule_levels;
+mod specification;
 mod status;
 mod trace_lines;
 mod words;
 
 pub use following::follow;
 pub use messages::report;
-pub use pieces::{next_line, nothing_has_no_lines};
+pub use planning::read_plan;
 pub use reading::{Unread, read_file};
 pub use status::Status;
-pub use trace_lines::{TraceLine, has_name_form, read_line};
 pub use words::{Command, Words};
+
+#[cfg(test)]
+mod announcement_tests;
+#[cfg(test)]
+mod trace_line_tests;

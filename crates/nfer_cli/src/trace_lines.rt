@@ -7,6 +7,7 @@ ghost use Rattle.nf_text.specs.Fields.{fields_of};
 ghost use Rattle.nfer_cli.specs.Trace.{line, line_within, event_of, event_from, without_return};
 ghost use Rattle.nfer_cli.specs.Readings.{line_read};
 
+use crate::identifiers::has_name_form;
 use nf_text::{read_time, split};
 
 /// The most bytes of a line before its LF.
@@ -77,37 +78,4 @@ fn event_of<'a>(name: &'a str, time: Option<i64>) -> TraceLine<'a>
         Some(time) if has_name_form(name.as_bytes()) => TraceLine::Accepted(name, time),
         _ => TraceLine::Unbuilt,
     }
-}
-
-/// Whether the bytes are a letter, and then letters and digits, where `_` is a letter. The rule is
-/// `has_name_form` of nf_core's specs/Identifiers. Takes no memory.
-#[tactic(auto, unfolding(nf_core::specs::Identifiers::has_name_form))]
-pub fn has_name_form(name: &[u8]) -> bool
-    ensures { result ≡ has_name_form name.now }
-{
-    match name.split_first() {
-        Some((first, rest)) => is_letter(*first) && is_tail(rest),
-        None => false,
-    }
-}
-
-/// Whether the bytes are letters and digits, as those of the empty list are.
-fn is_tail(bytes: &[u8]) -> bool
-    ensures { result ≡ list_all (λ byte. is_letter byte || is_digit byte) bytes.now }
-{
-    bytes.iter().all(|byte| is_letter(*byte) || is_digit(*byte))
-}
-
-/// Whether a byte is `A` to `Z`, `a` to `z` or `_`.
-fn is_letter(byte: u8) -> bool
-    ensures { result ≡ is_letter byte }
-{
-    byte.is_ascii_alphabetic() || byte == b'_'
-}
-
-/// Whether a byte is `0` to `9`.
-fn is_digit(byte: u8) -> bool
-    ensures { result ≡ is_digit byte }
-{
-    byte.is_ascii_digit()
 }

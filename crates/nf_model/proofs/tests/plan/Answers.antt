@@ -1,0 +1,7 @@
+use Rattle.std.proofs.Common.{All}
+use Rattle.nf_core.specs.Written.{IsBare}
+use Rattle.nf_model.proofs.Example.{example_planned, example_leveled, example_bare}
+use Rattle.nf_model.proofs.tests.plan.Goals as goal
+
+pub build-requires : goal.build-requires
+build-requires c = rw (c.in_ok-rules.ensures, c.in_ok-levels.ensures) (record { planned = example_planned; leveled = example_leveled; bare = example_bare })
