@@ -1,11 +1,11 @@
 -- The defined answer to the words and the files, and how the end of a call stands to it.
-use Rattle.std.specs.Prelude.{◌≡◌, ℕ, ◌+◌, ◌≤◌, ◌<◌, Bool, true, false, nat_lt, List, [], drop, length, Option, Some, None, IfSome, ⊤, IsTrue, if◌then◌else◌}
+use Rattle.std.specs.Prelude.{◌≡◌, ℕ, ◌+◌, ◌≤◌, ◌<◌, Bool, true, false, nat_lt, List, [], drop, length, Option, Some, None, IfSome, ⊤, slice_index_or, if◌then◌else◌}
 use Rattle.nf_core.specs.Plan.{Plan}
 use Rattle.nf_core.specs.declared.trees.Rule.{Rule}
 use Rattle.nf_io.specs.Files.{Files, bytes_of, asked_of}
 use Rattle.nf_io.specs.Causes.{Rose}
 use Rattle.nf_io.specs.Bytes.{Took, TookPart, TookPrefix}
-use Rattle.nfer_cli.specs.Words.{Asked, Follow, asked, file_words, file_word, trace_word}
+use Rattle.nfer_cli.specs.Words.{Asked, Follow, trace_word}
 use Rattle.nfer_cli.specs.Specification.{specification_limit, rules_of, IsPlanOf}
 use Rattle.nfer_cli.specs.Trace.{Ending, Done, Refused, Refusal, InNoForm, Falls, trace}
 use Rattle.nfer_cli.specs.Follow.{follow_text}
@@ -93,12 +93,12 @@ pub record Answers (Defined : Answer → Type 0) (result : Status) (before now :
   pub ends : EndsFor result answer.status
   pub writes : Wrote result before now answer.text
 
--- a file couldn't be read: the word is a file word of the command, the shelf's faults rose, its last call failed, and it was asked for that file
-pub record CannotRead (words : List (List ℕ)) (place : ℕ) (files : Option Files) (before now : ℕ) (failed : Bool) (last : Option (List ℕ)) : Type 0 where
-  pub place_is : place < length (file_words (asked words))
+-- one of the files with these names couldn't be read: the shelf's faults rose, its last call failed, and it was asked for that file
+pub record CannotRead (names : List (List ℕ)) (place : ℕ) (files : Option Files) (before now : ℕ) (failed : Bool) (last : Option (List ℕ)) : Type 0 where
+  pub place_is : place < length names
   pub rose : Rose before now
-  pub has_failed : IsTrue failed
-  pub asked_is : IfSome files (λ files. last ≡ Some (asked_of files (file_word words place)))
+  pub has_failed : failed ≡ true
+  pub asked_is : IfSome files (λ files. last ≡ Some (asked_of files (slice_index_or names place [])))
 
 -- what follows from a status that is a read fault
 abbrev pub IfReadFault : Status → (ℕ → Type 0) → Type 0
@@ -117,16 +117,24 @@ pub record StandsAtEnd (files : Files) (name : List ℕ) (last rest : Option (Li
   pub asked_is : last ≡ Some (asked_of files name)
   pub rest_is : rest ≡ Some []
 
--- where reading stood at the end of a call: no read is made after a refusal is known, and at most one piece was read past the byte that shows it
-abbrev pub ReadsTo : Option Asked → Status → Files → Option (List ℕ) → Option (List ℕ) → Option (List ℕ) → Option (List ℕ) → Type 0
-ReadsTo (Some (Follow file)) status.SpecificationTooLong files asked_before rest_before last rest = StandsIn files file (specification_limit + piece_limit) last rest
-ReadsTo (Some (Follow file)) status.Unbuilt files asked_before rest_before last rest = StandsAtEnd files file last rest
-ReadsTo (Some (Follow file)) status.TraceUnbuilt files asked_before rest_before last rest = StandsIn files trace_word (trace_limit + piece_limit) last rest
-ReadsTo (Some (Follow file)) status.Done files asked_before rest_before last rest = StandsAtEnd files trace_word last rest
-ReadsTo (Some (Follow file)) (status.LineUnbuilt line) files asked_before rest_before last rest = StandsAtEnd files trace_word last rest
-ReadsTo (Some (Follow file)) (status.Order line kept found) files asked_before rest_before last rest = StandsAtEnd files trace_word last rest
+-- where reading of the trace stood at the end: it was read whole, or, where it is too long, to one piece past the limit at most
+abbrev pub TraceReadsTo : Status → Files → Option (List ℕ) → Option (List ℕ) → Type 0
+TraceReadsTo status.TraceUnbuilt files last rest = StandsIn files trace_word (trace_limit + piece_limit) last rest
+TraceReadsTo status.Done files last rest = StandsAtEnd files trace_word last rest
+TraceReadsTo (status.LineUnbuilt line) files last rest = StandsAtEnd files trace_word last rest
+TraceReadsTo (status.Order line kept found) files last rest = StandsAtEnd files trace_word last rest
+TraceReadsTo other files last rest = ⊤
+
+-- where reading stood at the end: no read is made after a refusal is known, and at most one piece was read past the byte that shows it
+abbrev pub FollowReadsTo : List ℕ → Status → Files → Option (List ℕ) → Option (List ℕ) → Type 0
+FollowReadsTo file status.SpecificationTooLong files last rest = StandsIn files file (specification_limit + piece_limit) last rest
+FollowReadsTo file status.Unbuilt files last rest = StandsAtEnd files file last rest
+FollowReadsTo file result files last rest = TraceReadsTo result files last rest
+
+-- where reading stood at the end of a call, by what is asked: words in no form leave the shelf as it was
+abbrev pub ReadsTo : Option Asked → Status → Files → (asked_before rest_before last rest : Option (List ℕ)) → Type 0
 ReadsTo None result files asked_before rest_before last rest = (last ≡ asked_before) × (rest ≡ rest_before)
-ReadsTo (Some (Follow file)) other files asked_before rest_before last rest = ⊤
+ReadsTo (Some (Follow file)) result files asked_before rest_before last rest = FollowReadsTo file result files last rest
 
 -- an answer to what is asked, or want of memory
 abbrev pub IsCompleteFor : (Answer → Type 0) → Status → Type 0

@@ -16,5 +16,6 @@ pub mod Messages
 pub mod Answers
 pub mod Reading
 pub mod Results
+pub mod Faults
 pub mod Progress
 pub mod Example

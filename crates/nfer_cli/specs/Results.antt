@@ -1,5 +1,5 @@
 -- The status of a call that answers nothing else.
-use Rattle.std.specs.Prelude.{Result, Ok, Err, ⊤}
+use Rattle.std.specs.Prelude.{◌≡◌, Result, Ok, Err, ⊤}
 use Rattle.nfer_cli.specs.declared.status.Status.{Status}
 use Rattle.nfer_cli.specs.declared.status.Status.TheVariants as status
 
@@ -16,3 +16,14 @@ IsFollowEnd (status.Order line kept found) = ⊤
 IsFollowEnd status.WriteFault = ⊤
 IsFollowEnd status.NoMemory = ⊤
 IsFollowEnd other = ⊥
+
+-- the statuses that reading and following a trace can end with
+abbrev pub IsTraceEnd : Status → Type 0
+IsTraceEnd status.Done = ⊤
+IsTraceEnd status.TraceUnbuilt = ⊤
+IsTraceEnd (status.LineUnbuilt line) = ⊤
+IsTraceEnd (status.Order line kept found) = ⊤
+IsTraceEnd (status.ReadFault place) = place ≡ 1
+IsTraceEnd status.WriteFault = ⊤
+IsTraceEnd status.NoMemory = ⊤
+IsTraceEnd other = ⊥

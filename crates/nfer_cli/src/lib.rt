@@ -3,6 +3,7 @@
 
 mod announced;
 mod announcements;
+mod command;
 mod data_text;
 mod following;
 mod heads;
@@ -17,12 +18,9 @@ mod status;
 mod trace_lines;
 mod words;
 
-pub use following::follow;
-pub use messages::report;
-pub use planning::read_plan;
-pub use reading::{Unread, read_file};
+pub use command::run;
 pub use status::Status;
-pub use words::{Command, Words};
+pub use words::Words;
 
 #[cfg(test)]
 mod announcement_tests;

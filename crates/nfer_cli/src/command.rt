@@ -1,0 +1,177 @@
+//! The top call.
+
+ghost use Rattle.std.specs.Prelude.{◌≡◌, ◌≢◌, ◌↔◌, ◌≤◌, true, IfSome, Some, None, All, length};
+ghost use Rattle.nf_io.specs.Causes.{Rose};
+ghost use Rattle.nf_io.specs.Bytes.{Took};
+ghost use Rattle.nf_io.specs.Files.{bytes_of};
+ghost use Rattle.nf_model.specs.Built.{IsBuilt};
+ghost use Rattle.nfer_cli.specs.Words.{asked, Follow, file_words, trace_word};
+ghost use Rattle.nfer_cli.specs.Messages.{message};
+ghost use Rattle.nfer_cli.specs.Results.{end_of, IsFollowEnd};
+ghost use Rattle.nfer_cli.specs.Progress.{Ended};
+ghost use Rattle.nfer_cli.specs.Results.{IsTraceEnd};
+ghost use Rattle.nfer_cli.specs.Faults.{CannotReadTrace};
+ghost use Rattle.nfer_cli.specs.Answers.{Defines, Answers, ReadsTo, IfReadFault, CannotRead, IsCompleteFor, followed, specified, FollowDefines, FollowReadsTo, TraceReadsTo};
+
+use crate::following::follow;
+use crate::messages::report;
+use crate::planning::read_plan;
+use crate::reading::{Unread, read_file};
+use crate::status::Status;
+use crate::words::{Command, TRACE_WORD, Words};
+use nf_core::{Plan, Steps};
+use nf_io::{Shelf, Sink};
+use nf_model::Scratch;
+use std::alloc::Global;
+use std::sync::ledger::Ledger;
+
+/// The most bytes of a specification.
+const SPECIFICATION_LIMIT: usize = 1_048_576;
+
+/// The most bytes of a trace, which this stage reads whole.
+const TRACE_LIMIT: usize = 1_048_576;
+
+/// Runs the command that the words ask for: it reads from the shelf, writes to `out`, writes the
+/// message of any status but `Done` to `err`, and answers the status.
+///
+/// What it writes and answers is a stated function of the bytes of the files: `Defines` of
+/// specs/Answers, by the order of refusals. A fault of the shelf or of `out`, or want of memory, may
+/// come before it; then a prefix of the defined text was written.
+pub fn run<F: Shelf, O: Sink, E: Sink, L: Ledger>(
+    alloc: Global,
+    words: &Words,
+    shelf: &mut F,
+    out: &mut O,
+    err: &mut E,
+    steps: &mut Steps<L>,
+) -> Status
+    // Words that are in no form, and only those, are refused as such.
+    ensures usage { (result ≡ Status.Usage) ↔ (asked words.now ≡ None) }
+
+    // Where the shelf tells its files, the status and the text are those of a defined answer, unless
+    // a fault or want of memory came first: then a prefix of its text was written.
+    ensures answer { IfSome (F.files shelf.old) (λ files. Answers (Defines (asked words.now) files) result (O.taken out.old) (O.taken out.new)) }
+
+    // No read is made after a refusal is known, and at the end of the trace it was read whole.
+    ensures reads { IfSome (F.files shelf.old) (λ files. ReadsTo (asked words.now) result files (F.asked shelf.old) (F.rest shelf.old) (F.asked shelf.new) (F.rest shelf.new)) }
+
+    // A fault comes only where its object failed in this call, and a read fault names the file.
+    ensures read_fault { IfReadFault result (λ place. CannotRead (file_words (asked words.now)) place (F.files shelf.old) (F.faults shelf.old) (F.faults shelf.new) (F.failed shelf.new) (F.asked shelf.new)) }
+    ensures write_fault { result ≡ Status.WriteFault → Rose (O.faults out.old) (O.faults out.new) }
+
+    // With no fault of the shelf or of the output the answer is a defined one, or want of memory.
+    ensures completes { ¬ (Rose (F.faults shelf.old) (F.faults shelf.new)) → ¬ (Rose (O.faults out.old) (O.faults out.new)) →
+        IfSome (F.files shelf.old) (λ files. IsCompleteFor (Defines (asked words.now) files) result) }
+
+    // Standard error gets the message of the status and nothing else, unless it fails itself.
+    ensures message { ¬ (Rose (E.faults err.old) (E.faults err.new)) → Took (E.taken err.old) (E.taken err.new) (message words.now result) }
+
+    // Words in no form leave the shelf as it was.
+    ensures untouched { result ≡ Status.Usage → F.faults shelf.new ≡ F.faults shelf.old }
+{
+    let status = match words.command() {
+        Some(Command::Follow(file)) => ended(follow_file(alloc, file, shelf, out, steps)),
+        None => Status::Usage,
+    };
+    report(err, words, &status);
+    status
+}
+
+// The status of a call that answers nothing else.
+fn ended(followed: Result<(), Status>) -> Status
+    ensures { result ≡ end_of followed }
+{
+    match followed {
+        Ok(()) => Status::Done,
+        Err(status) => status,
+    }
+}
+
+// Follows the trace under the specification in a file.
+fn follow_file<F: Shelf, O: Sink, L: Ledger>(
+    alloc: Global,
+    file: &str,
+    shelf: &mut F,
+    out: &mut O,
+    steps: &mut Steps<L>,
+) -> Result<(), Status>
+    ensures answer { IfSome (F.files shelf.old) (λ files. Answers (Defines (Some (Follow file.now)) files) (end_of result) (O.taken out.old) (O.taken out.new)) }
+    ensures reads { IfSome (F.files shelf.old) (λ files. ReadsTo (Some (Follow file.now)) (end_of result) files (F.asked shelf.old) (F.rest shelf.old) (F.asked shelf.new) (F.rest shelf.new)) }
+    ensures usage { end_of result ≢ Status.Usage }
+    ensures read_fault { IfReadFault (end_of result) (λ place. CannotRead (file_words (Some (Follow file.now))) place (F.files shelf.old) (F.faults shelf.old) (F.faults shelf.new) (F.failed shelf.new) (F.asked shelf.new)) }
+    ensures write_fault { end_of result ≡ Status.WriteFault → Rose (O.faults out.old) (O.faults out.new) }
+{
+    match read_file(alloc, shelf, file, SPECIFICATION_LIMIT) {
+        Ok(bytes) => follow_specification(alloc, bytes.as_slice(), shelf, out, steps),
+        Err(Unread::TooLong) => Err(Status::SpecificationTooLong),
+        Err(Unread::Unreadable) => Err(Status::ReadFault(0)),
+        Err(Unread::NoMemory) => Err(Status::NoMemory),
+    }
+}
+
+// Follows the trace under a specification of these bytes.
+fn follow_specification<F: Shelf, O: Sink, L: Ledger>(
+    alloc: Global,
+    bytes: &[u8],
+    shelf: &mut F,
+    out: &mut O,
+    steps: &mut Steps<L>,
+) -> Result<(), Status>
+    requires { length bytes.now ≤ SPECIFICATION_LIMIT }
+    ensures answer { IfSome (F.files shelf.old) (λ files. Answers (FollowDefines (specified bytes.now) (bytes_of files trace_word)) (end_of result) (O.taken out.old) (O.taken out.new)) }
+    ensures unbuilt { end_of result ≡ Status.Unbuilt → (F.asked shelf.new ≡ F.asked shelf.old) × (F.rest shelf.new ≡ F.rest shelf.old) }
+    ensures reads { end_of result ≢ Status.Unbuilt → IfSome (F.files shelf.old) (λ files. TraceReadsTo (end_of result) files (F.asked shelf.new) (F.rest shelf.new)) }
+    ensures kinds { (end_of result ≢ Status.Usage) × (end_of result ≢ Status.SpecificationTooLong) }
+    ensures read_fault { IfReadFault (end_of result) (λ place. CannotReadTrace place (F.files shelf.old) (F.faults shelf.old) (F.faults shelf.new) (F.failed shelf.new) (F.asked shelf.new)) }
+    ensures write_fault { end_of result ≡ Status.WriteFault → Rose (O.faults out.old) (O.faults out.new) }
+    ensures files { F.files shelf.new ≡ F.files shelf.old }
+    ensures never_falls { F.faults shelf.old ≤ F.faults shelf.new }
+{
+    match read_plan(alloc, bytes)? {
+        Some(plan) => follow_under(alloc, &plan, shelf, out, steps),
+        None => Err(Status::Unbuilt),
+    }
+}
+
+// Reads the trace, and follows it under a plan.
+fn follow_under<F: Shelf, O: Sink, L: Ledger>(
+    alloc: Global,
+    plan: &Plan,
+    shelf: &mut F,
+    out: &mut O,
+    steps: &mut Steps<L>,
+) -> Result<(), Status>
+    requires { All IsBuilt plan.now.rules }
+    ensures answer { IfSome (F.files shelf.old) (λ files. Answers (λ answer. answer ≡ followed plan.now true (bytes_of files trace_word)) (end_of result) (O.taken out.old) (O.taken out.new)) }
+    ensures reads { IfSome (F.files shelf.old) (λ files. TraceReadsTo (end_of result) files (F.asked shelf.new) (F.rest shelf.new)) }
+    ensures kinds { IsTraceEnd (end_of result) }
+    ensures read_fault { IfReadFault (end_of result) (λ place. CannotReadTrace place (F.files shelf.old) (F.faults shelf.old) (F.faults shelf.new) (F.failed shelf.new) (F.asked shelf.new)) }
+    ensures write_fault { end_of result ≡ Status.WriteFault → Rose (O.faults out.old) (O.faults out.new) }
+    ensures files { F.files shelf.new ≡ F.files shelf.old }
+    ensures never_falls { F.faults shelf.old ≤ F.faults shelf.new }
+{
+    match read_file(alloc, shelf, TRACE_WORD, TRACE_LIMIT) {
+        Ok(bytes) => follow_trace(alloc, plan, bytes.as_slice(), out, steps),
+        Err(Unread::TooLong) => Err(Status::TraceUnbuilt),
+        Err(Unread::Unreadable) => Err(Status::ReadFault(1)),
+        Err(Unread::NoMemory) => Err(Status::NoMemory),
+    }
+}
+
+// Follows a trace of these bytes under a plan, with every candidate held.
+fn follow_trace<O: Sink, L: Ledger>(
+    alloc: Global,
+    plan: &Plan,
+    bytes: &[u8],
+    out: &mut O,
+    steps: &mut Steps<L>,
+) -> Result<(), Status>
+    requires built { All IsBuilt plan.now.rules }
+    requires within { length bytes.now ≤ TRACE_LIMIT }
+    ensures answer { Ended (end_of result) (followed plan.now true bytes.now) (O.taken out.old) (O.taken out.new) }
+    ensures kinds { IsFollowEnd (end_of result) }
+    ensures write_fault { end_of result ≡ Status.WriteFault → Rose (O.faults out.old) (O.faults out.new) }
+{
+    let scratch = Scratch::new(alloc, plan, true)?;
+    follow(alloc, plan, scratch, bytes, out, steps)
+}
