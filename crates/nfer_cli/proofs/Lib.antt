@@ -16,4 +16,8 @@ pub mod EachOnce
 pub mod RuleLevels
 pub mod NameLevels
 pub mod Planned
+pub mod FollowText
+pub mod DefinedAnswers
+pub mod OneAnswer
+pub mod Whole
 pub mod Example

@@ -69,12 +69,30 @@ pub fn run<F: Shelf, O: Sink, E: Sink, L: Ledger>(
     // Words in no form leave the shelf as it was.
     ensures untouched { result ≡ Status.Usage → F.faults shelf.new ≡ F.faults shelf.old }
 {
-    let status = match words.command() {
-        Some(Command::Follow(file)) => ended(follow_file(alloc, file, shelf, out, steps)),
-        None => Status::Usage,
-    };
+    let status = carry_out(alloc, words, shelf, out, steps);
     report(err, words, &status);
     status
+}
+
+// Carries out what the words ask for.
+fn carry_out<F: Shelf, O: Sink, L: Ledger>(
+    alloc: Global,
+    words: &Words,
+    shelf: &mut F,
+    out: &mut O,
+    steps: &mut Steps<L>,
+) -> Status
+    ensures usage { (result ≡ Status.Usage) ↔ (asked words.now ≡ None) }
+    ensures answer { IfSome (F.files shelf.old) (λ files. Answers (Defines (asked words.now) files) result (O.taken out.old) (O.taken out.new)) }
+    ensures reads { IfSome (F.files shelf.old) (λ files. ReadsTo (asked words.now) result files (F.asked shelf.old) (F.rest shelf.old) (F.asked shelf.new) (F.rest shelf.new)) }
+    ensures read_fault { IfReadFault result (λ place. CannotRead (file_words (asked words.now)) place (F.files shelf.old) (F.faults shelf.old) (F.faults shelf.new) (F.failed shelf.new) (F.asked shelf.new)) }
+    ensures write_fault { result ≡ Status.WriteFault → Rose (O.faults out.old) (O.faults out.new) }
+    ensures untouched { result ≡ Status.Usage → F.faults shelf.new ≡ F.faults shelf.old }
+{
+    match words.command() {
+        Some(Command::Follow(file)) => ended(follow_file(alloc, file, shelf, out, steps)),
+        None => Status::Usage,
+    }
 }
 
 // The status of a call that answers nothing else.

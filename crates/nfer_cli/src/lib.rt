@@ -8,6 +8,7 @@ mod data_text;
 mod following;
 mod heads;
 mod identifiers;
+mod laws;
 mod messages;
 mod pieces;
 mod planning;
@@ -19,6 +20,7 @@ mod trace_lines;
 mod words;
 
 pub use command::run;
+pub use laws::{every_question_has_one_answer, follow_text_is_one_change_after_another};
 pub use status::Status;
 pub use words::Words;
 

@@ -1,0 +1,9 @@
+use Rattle.std.proofs.Common.{◌≡◌, None, rules}
+use Rattle.nfer_cli.specs.Words.{asked}
+use Rattle.nfer_cli.proofs.Whole.{answers_usage}
+use Rattle.nfer_cli.proofs.command.carry_out.Goals as goal
+
+pub returns-in-None-clause-answer : goal.returns-in-None-clause-answer
+returns-in-None-clause-answer g c =
+    let none : asked c.args.words.now ≡ None = search rules in
+    answers_usage (g.F.Shelf.files c.args.shelf.now) _ (g.O.Sink.taken c.args.out.now) none

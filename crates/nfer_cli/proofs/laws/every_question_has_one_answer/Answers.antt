@@ -1,0 +1,6 @@
+use Rattle.nfer_cli.proofs.DefinedAnswers.{some_answer}
+use Rattle.nfer_cli.proofs.OneAnswer.{one_answer}
+use Rattle.nfer_cli.proofs.laws.every_question_has_one_answer.Goals as goal
+
+pub returns : goal.returns
+returns c = record { some = some_answer; one = one_answer }

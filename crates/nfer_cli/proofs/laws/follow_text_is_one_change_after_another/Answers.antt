@@ -1,0 +1,5 @@
+use Rattle.nfer_cli.proofs.FollowText.{follow_text-is}
+use Rattle.nfer_cli.proofs.laws.follow_text_is_one_change_after_another.Goals as goal
+
+pub returns : goal.returns
+returns c = follow_text-is

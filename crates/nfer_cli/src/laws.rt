@@ -1,0 +1,24 @@
+//! What holds of the definitions themselves.
+
+ghost use Rattle.std.specs.Prelude.{◌≡◌, Bool, List, Option};
+ghost use Rattle.nf_core.specs.Plan.{Plan};
+ghost use Rattle.nf_io.specs.Files.{Files};
+ghost use Rattle.nf_model.specs.Changes.{no_inputs};
+ghost use Rattle.nfer_cli.specs.Answers.{Answer, Defines};
+ghost use Rattle.nfer_cli.specs.Trace.{Event};
+ghost use Rattle.nfer_cli.specs.Follow.{follow_text};
+ghost use Rattle.nfer_cli.specs.Progress.{text_from};
+ghost use Rattle.nfer_cli.specs.Words.{Asked};
+
+/// Following a trace by computing every prefix anew writes the same text as entering one event after the
+/// other and writing what each one changes.
+pub fn follow_text_is_one_change_after_another()
+    ensures { (plan : Plan) (full : Bool) (events : List Event) → follow_text plan full events ≡ text_from (no_inputs plan full) events }
+{}
+
+/// Every question has a defined answer, whatever the words and the files are, and no question has two:
+/// the answer that a call is measured by is determined by what it was given (`Defines` of specs/Answers).
+pub fn every_question_has_one_answer()
+    ensures some { (asked : Option Asked) (files : Files) → (answer : Answer) × Defines asked files answer }
+    ensures one { (asked : Option Asked) (files : Files) (a b : Answer) → Defines asked files a → Defines asked files b → a ≡ b }
+{}
