@@ -1,6 +1,7 @@
 -- The value of an expression over one or two members. Undefined is no value.
 use Rattle.std.specs.Prelude.{ℕ, zero, suc, ℤ, pos, negsuc, ◌+ℤ◌, ◌-ℤ◌, ◌*ℤ◌, neg_ℤ, int_lt, int_le, int_div, int_rem, Bool, not, ◌&&◌, ◌||◌, Option, Some, None, option_and_then, slice_index_or, if◌then◌else◌}
 use Rattle.std.specs.Ordering.{int_eq, is_eq}
+use Rattle.nf_core.specs.Texts.{int_least, int_greatest}
 use Rattle.nf_core.specs.Values.{value_cmp}
 use Rattle.nf_core.specs.Intervals.{Interval}
 use Rattle.nf_core.specs.declared.values.Value as value
@@ -11,14 +12,7 @@ use Rattle.nf_core.specs.declared.terms.Term as term
 use Rattle.nf_core.specs.declared.terms.Term.TheOpen as node
 use Rattle.nf_core.specs.declared.terms.Term.TheFolds.{fold-Term}
 
--- the least and the greatest whole number of a value
-abbrev pub int_least : ℤ
-int_least = negsuc 9223372036854775807
-
-abbrev pub int_greatest : ℤ
-int_greatest = pos 9223372036854775807
-
--- a whole number computed without bounds, and then tested for the range of values
+-- a whole number computed without bounds, and then tested for the range of values: Undefined outside it
 unfoldable pub in_range : ℤ → Option value.Value
 in_range n = if int_le int_least n && int_le n int_greatest then Some (variant.Int n) else None
 
@@ -44,7 +38,7 @@ remainder m n = if int_eq n (pos 0) || (int_eq m int_least && int_eq n (negsuc 0
 abbrev pub compared : (ℤ → ℤ → Bool) → ℤ → ℤ → Option value.Value
 compared test m n = Some (variant.Bool (test m n))
 
--- an operator with two operands: `=` and `!=` compare any two values, the others want their kinds
+-- an operator with two operands: `|` and `&` want truth values, `< <= > >= + - * / %` whole numbers, and any other kind is Undefined; `=` and `!=` compare any two values, and values of different kinds are unequal
 unfoldable pub binary : operator.BinOp → value.Value → value.Value → Option value.Value
 binary op.Or a b = of_bools (λ p q. p || q) a b
 binary op.And a b = of_bools (λ p q. p && q) a b
@@ -60,23 +54,24 @@ binary op.Mul a b = of_ints (λ m n. in_range (m *ℤ n)) a b
 binary op.Div a b = of_ints quotient a b
 binary op.Rem a b = of_ints remainder a b
 
--- unary `-`: of a whole number, tested for the range
+-- unary `-`: of a whole number, tested for the range; Undefined at any other kind
 unfoldable pub negated : value.Value → Option value.Value
 negated (variant.Int n) = in_range (neg_ℤ n)
 negated v = None
 
--- `!`: of a truth value
+-- `!`: of a truth value; Undefined at any other kind
 unfoldable pub inverted : value.Value → Option value.Value
 inverted (variant.Bool b) = Some (variant.Bool (not b))
 inverted v = None
 
--- member 0 is the first one and member 1 the second, where there is one
+-- member 0 is the first one and member 1 the second, where there is one; there are no others
 unfoldable pub member : Interval → Option Interval → ℕ → Option Interval
 member first second zero = Some first
-member first second (suc n) = second
+member first second (suc zero) = second
+member first second (suc (suc n)) = None
 
 module _ (first : Interval) (second : Option Interval) where
-  -- the value of a node, given the values of its operands: an Undefined operand makes it Undefined
+  -- the value of a node, given the values of its operands: a missing key is Undefined, and an Undefined operand makes the node Undefined
   unfoldable pub value_of_node : node.Term-F (Option value.Value) → Option value.Value
   value_of_node (node.Bool b) = Some (variant.Bool b)
   value_of_node (node.Int n) = Some (variant.Int n)

@@ -16,6 +16,7 @@ pub record Interval : Type 0 where
 abbrev pub interval_cmp : Interval → Interval → Ordering
 interval_cmp i j = ordering_then (int_cmp i.start j.start) (ordering_then (int_cmp i.stop j.stop) (row_cmp i.row j.row))
 
+-- it is a total order
 pub interval_cmp_total : IsTotalOrder interval_cmp
 interval_cmp_total = then_total (on_total (λ (i : Interval). i.start) int_cmp_total)
     (then_total (on_total (λ (i : Interval). i.stop) int_cmp_total) (on_total (λ (i : Interval). i.row) row_cmp_total))

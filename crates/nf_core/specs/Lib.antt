@@ -8,3 +8,4 @@ pub mod Expressions
 pub mod Identifiers
 pub mod Plan
 pub mod Written
+pub mod Example

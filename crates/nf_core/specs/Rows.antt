@@ -13,6 +13,7 @@ use Rattle.nf_core.specs.declared.values.Value.TheVariants as variant
 abbrev pub row_cmp : List (Option value.Value) → List (Option value.Value) → Ordering
 row_cmp = slice_cmp (option_cmp value_cmp)
 
+-- it is a total order
 pub row_cmp_total : IsTotalOrder row_cmp
 row_cmp_total = lists_total (options_total value_cmp_total)
 
@@ -22,6 +23,7 @@ IsPlainValue (variant.Bool b) = ⊤
 IsPlainValue (variant.Int n) = ⊤
 IsPlainValue (variant.Text t) = IsPlain t
 
+-- a missing value may stand in a cell, and so may a plain one
 abbrev pub IsPlainCell : Option value.Value → Type 0
 IsPlainCell None = ⊤
 IsPlainCell (Some v) = IsPlainValue v

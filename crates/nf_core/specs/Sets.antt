@@ -14,7 +14,7 @@ IsSet = IsStrictlySortedBy interval_cmp
 abbrev pub has : List Interval → Interval → Bool
 has is i = list_any (same i) is
 
--- the sorted list with an interval put in where it wasn't
+-- the sorted list with an interval at its place, unless it is there
 abbrev pub inserted : Interval → List Interval → List Interval
 inserted i is = insert_key interval_cmp is i
 

@@ -13,10 +13,18 @@ text_cmp = slice_cmp nat_cmp
 abbrev pub text_eq : List ℕ → List ℕ → Bool
 text_eq = pointwise nat_eq
 
--- a number that a value may have: from -2^63 to 2^63 - 1
+-- the least whole number of a value, -2^63
+abbrev pub int_least : ℤ
+int_least = negsuc 9223372036854775807
+
+-- the greatest whole number of a value, 2^63 - 1
+abbrev pub int_greatest : ℤ
+int_greatest = pos 9223372036854775807
+
+-- a number that a value may have
 pub record IsI64 (n : ℤ) : Type 0 where
-  pub low : negsuc 9223372036854775807 ≤ℤ n
-  pub high : n ≤ℤ pos 9223372036854775807
+  pub low : int_least ≤ℤ n
+  pub high : n ≤ℤ int_greatest
 
 -- not one of the bytes that part a trace line or end it: `|`, `;`, CR, LF
 pub record IsPlainByte (byte : ℕ) : Type 0 where

@@ -14,6 +14,8 @@ mod rows;
 mod sets;
 mod steps;
 mod terms;
+#[cfg(test)]
+mod tests;
 mod text_sets;
 mod texts;
 mod trees;

@@ -1,5 +1,5 @@
 -- What the worked example meets.
-use Rattle.std.proofs.Common.{◌≡◌, ℕ, ◌<◌, ◌^◌, [], length, All, IsTrue, refl, arith}
+use Rattle.std.proofs.Common.{◌<◌, ◌^◌, [], length, All, IsTrue, refl, arith}
 use Rattle.std.proofs.lemmas.List.Elements.{All-nil, All-from_recursion}
 use Rattle.nf_core.specs.Identifiers.{is_identifier, has_name_form, keywords}
 use Rattle.nf_core.specs.Written.{names_of, keys_of_name, CanBePlanned, AreLevels, IsLevelOf, IsBare}

@@ -1,3 +1,4 @@
+mod Worked
 pub mod Lists
 pub mod Levels
 pub mod Heads

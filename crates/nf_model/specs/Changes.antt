@@ -22,7 +22,7 @@ no_inputs plan full = record { plan = plan; full = full; inputs = replicate (len
 abbrev pub pool_of : Content → ℕ → List Interval
 pool_of content n = pool content.plan content.full content.inputs n
 
--- the content with an interval added to a name's inputs, once
+-- the content with an interval added to the inputs of a name that it has, once
 abbrev pub with_input : ℕ → Interval → Content → Content
 with_input n i content = record content { inputs = slice_set content.inputs n (inserted i (of_name content.inputs n)) }
 
@@ -34,6 +34,7 @@ heads plan = filter (is_head plan) (range_with_len 0 (length plan.names))
 abbrev pub lacking : List Interval → List Interval → List Interval
 lacking members others = filter (λ i. not (has others i)) members
 
+-- intervals with their name's number
 abbrev pub named : ℕ → List Interval → List Named
 named n members = map (λ i. record { name = n; interval = i }) members
 

@@ -1,5 +1,5 @@
 -- A worked example: the rules `w :- a` and `x :- w before b`, and their pools after the events `a` at 1, `a` at 2 and `b` at 3.
-use Rattle.std.specs.Prelude.{◌≡◌, ℕ, ℤ, pos, true, false, List, [], ◌∷◌, codes, None, refl}
+use Rattle.std.specs.Prelude.{◌≡◌, ℕ, pos, true, false, List, [], ◌∷◌, codes, None, refl}
 use Rattle.nf_core.specs.Intervals.{Interval}
 use Rattle.nf_core.specs.Relations.{holds, span}
 use Rattle.nf_core.specs.Plan.{Plan}

@@ -13,6 +13,7 @@ use Rattle.nf_model.specs.Results.{results}
 abbrev pub Inputs : Type 0
 Inputs = List (List Interval)
 
+-- the intervals of a name
 abbrev pub of_name : Inputs → ℕ → List Interval
 of_name lists n = slice_index_or lists n []
 
@@ -42,7 +43,7 @@ results_over pool rule = results rule (pool rule.first) (second_of pool rule.lin
 abbrev pub candidates_over : Plan → Inputs → (ℕ → List Interval) → ℕ → List Interval
 candidates_over plan inputs pool n = of_name inputs n ++ flat_map (results_over pool) (rules_of plan n)
 
--- the pools of the names below a level: a name's rules read names of lower levels
+-- the pools worked out through so many levels. They are those of each name below that level, since a name's rules read names of lower levels alone; nothing else reads the others
 unfoldable pub pool_below : Plan → Bool → Inputs → ℕ → ℕ → List Interval
 pool_below plan full inputs zero n = []
 pool_below plan full inputs (suc level) n = judged full (candidates_over plan inputs (pool_below plan full inputs level) n)

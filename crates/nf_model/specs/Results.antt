@@ -56,7 +56,7 @@ interval_from (Some start) (Some stop) row = if int_le start stop then Some (rec
 interval_from (Some start) None row = None
 interval_from None stop row = None
 
--- the result of a rule from its members and their span; none where an end point is no whole number, or where begin is after end
+-- the result of a rule from its members and their span; none where an end point is Undefined or no whole number, or where begin is after end
 unfoldable pub built : PlanRule → ℤ → ℤ → Interval → Option Interval → Option Interval
 built rule start stop i j = interval_from (end_point rule.start start i j) (end_point rule.stop stop i j) (row_of rule i j)
 

@@ -1,5 +1,13 @@
 //! The meaning of the rules over whole inputs, and the slow evaluator that computes it anew at
 //! each step.
+//!
+//! specs/Results has the results of a rule over whole lists, by all pairs; specs/Pools has the
+//! candidates and the pool of each name; specs/Changes has the content of an evaluator and what the
+//! pools of heads lose and gain. `Inferer` is what each evaluator promises by these definitions, and
+//! `Scratch` is the plainest one: `results` computes the results of a rule, `judging` which
+//! candidates are held, `evaluation` the pools level by level, and `changes` what differs. Below
+//! stands nf_core with its plans and intervals; above stands what reads traces and announces
+//! changes, over any `Inferer`.
 #![tactic(auto)]
 
 mod changes;

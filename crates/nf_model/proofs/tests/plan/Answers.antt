@@ -1,5 +1,3 @@
-use Rattle.std.proofs.Common.{All}
-use Rattle.nf_core.specs.Written.{IsBare}
 use Rattle.nf_model.proofs.Example.{example_planned, example_leveled, example_bare}
 use Rattle.nf_model.proofs.tests.plan.Goals as goal
 

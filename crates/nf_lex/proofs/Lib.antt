@@ -1,0 +1,11 @@
+pub mod Closes
+pub mod Runs
+pub mod Starts
+pub mod Longest
+pub mod Places
+pub mod Checks
+pub mod Reading
+pub mod OneAnswer
+pub mod Laying
+pub mod Existence
+pub mod Printed

@@ -1,0 +1,6 @@
+pub mod Bytes
+pub mod Words
+pub mod Faults
+pub mod Division
+pub mod Layout
+pub mod Pieces

@@ -1,0 +1,28 @@
+//! The tokens of a specification.
+//!
+//! The rule is `Divides` in specs/Division.antt: a source is words, one after the other and the longest
+//! at each place, which are separators, comments and tokens (specs/Words.antt), up to its end or to its
+//! first fault (specs/Faults.antt). `tokens` reads them in one pass and lends each as a span of the
+//! source. The crate stands on nf_text, which says what a plain text is. The parser stands above it.
+#![tactic(auto)]
+
+mod bytes;
+mod comments;
+mod fault;
+mod faults;
+mod laws;
+mod piece;
+mod pieces;
+mod reader;
+mod token;
+mod token_list;
+mod words;
+
+pub use fault::LexFault;
+pub use laws::{division_is_one, words_are_read};
+pub use reader::tokens;
+pub use token::{Token, TokenKind};
+pub use token_list::Tokens;
+
+#[cfg(test)]
+mod tests;
