@@ -15,6 +15,7 @@ use Rattle.nf_core.specs.declared.values.Value as value
 use Rattle.nf_core.specs.declared.intervals.Named.{Named}
 use Rattle.nf_core.specs.declared.intervals.Change.{Change}
 use Rattle.nf_model.specs.Changes.{Content, pool_of, heads, lacking, named, beyond, change, no_inputs, with_input}
+use Rattle.nfer_cli.proofs.Flat.{All-flat_map}
 use Rattle.nfer_cli.specs.Announcements.{change_text, lines_of}
 use Rattle.nfer_cli.specs.Trace.{Event}
 use Rattle.nfer_cli.specs.Follow.{entered, entered_at, row_from, content_after, text_at, follow_text}
@@ -22,11 +23,6 @@ use Rattle.std.specs.Prelude.{Result, Ok, Err, OnOk, IfErr}
 use Rattle.nf_io.specs.Bytes.{Took, Took-none}
 use Rattle.nfer_cli.specs.declared.status.Status.{Status}
 use Rattle.nfer_cli.specs.Progress.{Stopped, text_between, text_from, event_text, event_at, entered_as, event_interval_of}
-
--- what holds of all that is made of each item holds of the whole
-all_flat : {X Y : Type 0} (P : Y → Type 0) (f : X → List Y) (xs : List X) → AllByRecursion (λ x. All P (f x)) xs → All P (flat_map f xs)
-all_flat P f [] h = All-nil P
-all_flat P f (x ∷ xs) h = All-append P (f x) (flat_map f xs) h.0 (all_flat P f xs h.1)
 
 -- heads are names of the plan
 heads_within : (plan : Plan) → All (λ n. n < length plan.names) (heads plan)
@@ -38,9 +34,9 @@ heads_within plan =
 -- what one choice of pools has beyond another is named by names of the plan
 pub beyond_within : (plan : Plan) (pools others : ℕ → List Interval) → All (λ (item : Named). item.name < length plan.names) (beyond plan pools others)
 beyond_within plan pools others =
-    all_flat (λ (item : Named). item.name < length plan.names) (λ n. named n (lacking (pools n) (others n))) (heads plan)
-    (recursion_from_All _ _ (All-weaker (λ n. n < length plan.names) (λ n. All (λ (item : Named). item.name < length plan.names) (named n (lacking (pools n) (others n))))
-    (λ n within. All-map (λ (item : Named). item.name < length plan.names) _ _ (λ k d inside. within)) (heads plan) (heads_within plan)))
+    All-flat_map (λ (item : Named). item.name < length plan.names) (λ n. named n (lacking (pools n) (others n))) (heads plan)
+    (All-weaker (λ n. n < length plan.names) (λ n. All (λ (item : Named). item.name < length plan.names) (named n (lacking (pools n) (others n))))
+    (λ n within. All-map (λ (item : Named). item.name < length plan.names) _ _ (λ k d inside. within)) (heads plan) (heads_within plan))
 
 -- the text of a change, from the change that was computed
 pub between : (plan : Plan) (before now : Content) (made : Change) (lines : List ℕ) → lines ≡ change_text plan made → made ≡ change before now → before.plan ≡ plan → lines ≡ text_between before now

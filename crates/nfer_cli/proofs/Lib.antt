@@ -1,3 +1,4 @@
+pub mod Flat
 pub mod Bools
 pub mod Ascii
 pub mod AsciiLines

@@ -13,6 +13,7 @@ use Rattle.nfer_cli.specs.Words.{Asked, Follow, trace_word}
 use Rattle.nfer_cli.specs.Specification.{is_head_of, reads_earlier_heads, IsPlanOf}
 use Rattle.nfer_cli.specs.RuleLevels.{level_over, AreFound}
 use Rattle.nfer_cli.specs.Answers.{Answer, Specified, TooLong, NoForm, Rules, followed, specified, FollowDefines, Defines}
+use Rattle.nfer_cli.proofs.Flat.{All-flat_map}
 use Rattle.nfer_cli.proofs.Bools.{both, neither}
 use Rattle.nfer_cli.proofs.RuleLevels.{read_by}
 use Rattle.nfer_cli.proofs.DefinedAnswers.{rules_are_ordered, rules_read}
@@ -117,13 +118,9 @@ module _ (rules : List Rule) (f g : List ℕ → ℕ) (ordered : reads_earlier_h
   one_found name = all_rules [] rules refl at_no_heads name refl
 
 -- what is below a name of some rules is among their names
-all_flat : {X Y : Type 0} (P : Y → Type 0) (f : X → List Y) (xs : List X) → All (λ x. All P (f x)) xs → All P (flat_map f xs)
-all_flat P f [] h = All-nil P
-all_flat P f (x ∷ xs) h = All-append P (f x) (flat_map f xs) (All-head (λ x. All P (f x)) x xs h) (all_flat P f xs (All-tail (λ x. All P (f x)) x xs h))
-
 known_below : (rules : List Rule) (name : List ℕ) → All (Contains (names_of rules)) (names_below rules name)
 known_below rules name =
-    all_flat (Contains (names_of rules)) read_by (filter (λ (rule : Rule). bytes_eq rule.head name) rules)
+    All-flat_map (Contains (names_of rules)) read_by (filter (λ (rule : Rule). bytes_eq rule.head name) rules)
     (All-filter (λ (rule : Rule). bytes_eq rule.head name) (λ rule. All (Contains (names_of rules)) (read_by rule)) rules
     (λ k d within. let rule = get_or rules k d in
     All-from_recursion (Contains (names_of rules)) (read_by rule) (known_names rules rule (Contains-get_or rules k d within)).1))

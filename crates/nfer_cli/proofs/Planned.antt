@@ -21,16 +21,13 @@ use Rattle.nf_model.specs.Built.{IsBuilt, IsBuiltLink}
 use Rattle.nf_text.specs.Fields.{fields_of}
 use Rattle.nfer_cli.specs.Specification.{plain_atom, bare_rule, rule_of_words, rule_of, rules_of_pieces, rules_of, ordered_rules, reads_earlier_heads, specification_limit, IsPlanOf}
 use Rattle.nfer_cli.specs.ReadPlan.{IsReadFrom}
+use Rattle.nfer_cli.proofs.Flat.{All-flat_map}
 use Rattle.nfer_cli.proofs.Bools.{both}
 use Rattle.nfer_cli.proofs.EachOnce.{with_text, All-each_once}
 use Rattle.nfer_cli.proofs.Spelled.{IsName, IsPlainBody, IsPlainRule, AreRead, are_read}
 
 All-weaker : {X : Type 0} (P Q : X → Type 0) → ((x : X) → P x → Q x) → (xs : List X) → All P xs → All Q xs
 All-weaker P Q f xs h = λ k d low. f (get_or xs k d) (h k d low)
-
-All-flat_map : {X Y : Type 0} (P : Y → Type 0) (f : X → List Y) (xs : List X) → All (λ x. All P (f x)) xs → All P (flat_map f xs)
-All-flat_map P f [] h = All-nil P
-All-flat_map P f (x ∷ xs) h = All-append P (f x) (flat_map f xs) (All-head (λ x. All P (f x)) x xs h) (All-flat_map P f xs (All-tail (λ x. All P (f x)) x xs h))
 
 -- at most 3 names a rule
 names_in_few : (head : List ℕ) (body : Body) → length (head ∷ map (λ (atom : Atom). atom.name) (atoms_of body)) ≤ 3

@@ -5,7 +5,7 @@ ghost use Rattle.std.specs.List.{list_all};
 ghost use Rattle.nf_core.specs.declared.intervals.Named.{Named};
 ghost use Rattle.nfer_cli.specs.Example.{one_rule, example_rules, example_levels};
 
-use crate::write_change;
+use crate::announcements::write_change;
 use nf_core::{
     Atom, Body, Change, EntryList, Interval, Levels, Named, NamedList, NoMemory, Plan, Row, Rule,
     RuleList, Text, Value,

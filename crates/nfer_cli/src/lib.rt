@@ -27,4 +27,6 @@ pub use words::Words;
 #[cfg(test)]
 mod announcement_tests;
 #[cfg(test)]
+mod run_tests;
+#[cfg(test)]
 mod trace_line_tests;

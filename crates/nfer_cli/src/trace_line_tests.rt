@@ -1,6 +1,7 @@
 //! Examples of trace lines from outside the definitions.
 
-use crate::{TraceLine, next_line, read_line};
+use crate::pieces::next_line;
+use crate::trace_lines::{TraceLine, read_line};
 use std::alloc::{AllocError, Global};
 use std::test::Fail;
 
