@@ -130,7 +130,18 @@ struct Given<'a> {
 }
 
 // Whether a run ends with a status, an output and a message.
-fn ends_so<L: Ledger>(
+fn ends_so(
+    alloc: Global,
+    given: &Given<'_>,
+    status: u8,
+    out_text: &[u8],
+    err_text: &[u8],
+) -> Result<bool, NoMemory> {
+    counted::<Brand>(alloc, given, status, out_text, err_text, Blank::new(1))
+}
+
+// The same, with the ledger of the counter.
+fn counted<L: Ledger>(
     alloc: Global,
     given: &Given<'_>,
     status: u8,
@@ -207,14 +218,7 @@ fn follows_traces(rt: HostRuntime) -> Result<(), Fail> {
                 most,
                 fails: (0, 0, 0),
             };
-            let so = ends_so::<Brand>(
-                rt.alloc(),
-                &given,
-                *status,
-                out.as_bytes(),
-                err.as_bytes(),
-                Blank::new(1),
-            )?;
+            let so = ends_so(rt.alloc(), &given, *status, out.as_bytes(), err.as_bytes())?;
             assert!(rt; so, "{specification:?} over {trace:?}, {most} bytes a call");
         }
     }
@@ -231,14 +235,7 @@ fn refuses_words(rt: HostRuntime) -> Result<(), Fail> {
             most: 1,
             fails: (0, 0, 0),
         };
-        let so = ends_so::<Brand>(
-            rt.alloc(),
-            &given,
-            *status,
-            b"",
-            err.as_bytes(),
-            Blank::new(1),
-        )?;
+        let so = ends_so(rt.alloc(), &given, *status, b"", err.as_bytes())?;
         assert!(rt; so, "{err:?}");
     }
     Ok(())
@@ -254,14 +251,7 @@ fn tells_faults(rt: HostRuntime) -> Result<(), Fail> {
             most: 65_536,
             fails: (*shelf, *output, *message),
         };
-        let so = ends_so::<Brand>(
-            rt.alloc(),
-            &given,
-            *status,
-            out.as_bytes(),
-            err.as_bytes(),
-            Blank::new(1),
-        )?;
+        let so = ends_so(rt.alloc(), &given, *status, out.as_bytes(), err.as_bytes())?;
         assert!(rt; so, "call {shelf} of the shelf, {output} of the output");
     }
     Ok(())
@@ -287,14 +277,7 @@ fn keeps_limits(rt: HostRuntime) -> Result<(), Fail> {
             most: 65_536,
             fails: (0, 0, 0),
         };
-        let so = ends_so::<Brand>(
-            rt.alloc(),
-            &given,
-            *status,
-            b"",
-            err.as_bytes(),
-            Blank::new(1),
-        )?;
+        let so = ends_so(rt.alloc(), &given, *status, b"", err.as_bytes())?;
         assert!(rt; so, "{err:?}");
     }
     Ok(())
@@ -330,7 +313,7 @@ fn fails_at_each_call(rt: HostRuntime) -> Result<(), Fail> {
             10..24 => (4, b"", b"nfer: cannot read -\n"),
             _ => (0, TEXT, b""),
         };
-        let so = ends_so::<Brand>(rt.alloc(), &given, status, out, err, Blank::new(1))?;
+        let so = ends_so(rt.alloc(), &given, status, out, err)?;
         assert!(rt; so, "call {call} of the shelf");
     }
     for call in 1..20u64 {
@@ -340,13 +323,13 @@ fn fails_at_each_call(rt: HostRuntime) -> Result<(), Fail> {
             _ => (0, b""),
         };
         let out = before_call(TEXT, call);
-        let so = ends_so::<Brand>(rt.alloc(), &given, status, out, err, Blank::new(1))?;
+        let so = ends_so(rt.alloc(), &given, status, out, err)?;
         assert!(rt; so, "call {call} of the output");
     }
     for call in 1..14u64 {
         let given = byte_by_byte(&["check"], (0, 0, call));
         let err = before_call(USAGE, call);
-        let so = ends_so::<Brand>(rt.alloc(), &given, 1, b"", err, Blank::new(1))?;
+        let so = ends_so(rt.alloc(), &given, 1, b"", err)?;
         assert!(rt; so, "call {call} of the message");
     }
     Ok(())
