@@ -2,7 +2,7 @@
 use Rattle.std.proofs.Common.{◌≡◌, ℕ, ◌+◌, ℤ, List, [], ◌∷◌, ◌++◌, Option, Some, None, refl, sym, ◌∙◌, ap, subst, append_assoc}
 use Rattle.std.specs.Prelude.{IsSome, IfSome}
 use Rattle.std.proofs.lemmas.List.{append-nil}
-use Rattle.nf_io.specs.Bytes.{Took, TookPart, TookPrefix, Took-none, Took-join, TookPart-after, TookPart-more, TookPrefix-after, TookPrefix-more}
+use Rattle.nf_io.specs.Bytes.{Took, TookPrefix, Took-none, Took-join, TookPart-after, TookPart-more, TookPrefix-after, TookPrefix-more}
 use Rattle.nf_model.specs.Changes.{Content}
 use Rattle.nfer_cli.specs.Lines.{cut}
 use Rattle.nfer_cli.specs.Trace.{Line, Empty, Accepted, Unbuilt, Refusal, InNoForm, Falls, Refused, Trace, line, trace_at, trace_from, fallen, judged_event}

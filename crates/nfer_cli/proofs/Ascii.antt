@@ -1,18 +1,14 @@
 -- Identifiers are ASCII.
-use Rattle.std.proofs.Common.{◌≡◌, ℕ, ◌<◌, Bool, true, false, cond, not, ◌&&◌, ◌||◌, ◌==◌, nat_lt, nat_le, List, [], ◌∷◌, ◌++◌, length, bytes_eq, codes, eqb, Option, Some, None, option_map, option_and_then, refl, ap, sym, ◌∙◌, subst, arith, lit<, if◌then◌else◌}
-use Rattle.std.specs.List.{list_all, list_any, slice_split, join_with_byte}
-use Rattle.std.specs.Str.{IsAscii, IsUtf8}
+use Rattle.std.proofs.Common.{◌≡◌, ℕ, ◌<◌, true, not, ◌||◌, nat_lt, List, [], ◌∷◌, bytes_eq, sym, subst, arith}
+use Rattle.std.specs.List.{list_all, list_any, join_with_byte}
+use Rattle.std.specs.Str.{IsAscii}
 use Rattle.std.proofs.lemmas.Bool.{ltb-true}
 use Rattle.std.proofs.lemmas.Bool.Decides.{nat_tests}
 use Rattle.std.proofs.lemmas.Slice.Eq.{bytes_eq-Decides}
-use Rattle.std.proofs.lemmas.List.Splits.{join_with_byte-slice_split}
-use Rattle.std.proofs.lemmas.Str.{IsAscii-append, IsUtf8-from_ascii}
+use Rattle.std.proofs.lemmas.Str.{IsAscii-append}
 use Rattle.std.proofs.lemmas.Str.Ascii.{IsAscii-nil, IsAscii-cons}
-use Rattle.nf_core.specs.declared.trees.Rule.{Rule}
 use Rattle.nf_core.specs.Identifiers.{is_letter, is_digit, has_name_form, is_identifier, keywords}
-use Rattle.nf_text.specs.Fields.{fields_of}
 use Rattle.nfer_cli.proofs.Bools.{both}
-use Rattle.nfer_cli.specs.Specification.{rule_of_words, rule_of, rules_of_pieces, rules_of, ordered_rules}
 
 ascii_tested : (bs : List ℕ) → list_all (λ b. nat_lt b 128) bs ≡ true → IsAscii bs
 ascii_tested [] e = IsAscii-nil

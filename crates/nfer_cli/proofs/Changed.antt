@@ -1,28 +1,26 @@
 -- The changes that events make, and the text of all of them.
-use Rattle.std.proofs.Common.{◌≡◌, ℕ, suc, ◌+◌, ◌<◌, ℤ, Bool, true, false, not, cond, List, [], ◌∷◌, ◌++◌, length, take, map, filter, Option, Some, None, refl, sym, ◌∙◌, ap, subst, arith, rules, add-one}
-use Rattle.std.specs.Prelude.{All, fold, flat_map, position, bytes_eq, reverse}
-use Rattle.std.specs.List.{range_with_len, list_any, AllByRecursion}
-use Rattle.std.specs.Map.{lookup}
+use Rattle.std.proofs.Common.{◌≡◌, ℕ, ◌+◌, ◌<◌, ℤ, Bool, false, not, cond, List, [], ◌∷◌, ◌++◌, length, map, filter, Option, Some, None, refl, sym, ◌∙◌, ap, subst, arith}
+use Rattle.std.specs.Prelude.{All, flat_map, position, bytes_eq}
+use Rattle.std.specs.List.{range_with_len, AllByRecursion}
 use Rattle.std.specs.Cmp.{eq_by_cmp_equiv}
-use Rattle.std.proofs.lemmas.List.{append-nil}
-use Rattle.std.proofs.lemmas.List.Elements.{All-filter, All-weaker, All-map, All-append, All-nil, recursion_from_All, All-contains_itself}
+use Rattle.std.proofs.lemmas.List.Elements.{All-filter, All-weaker, All-map, recursion_from_All, All-contains_itself}
 use Rattle.std.proofs.lemmas.List.FromFn.{length-range_with_len, get_or-range_with_len, map-range_with_len_more}
 use Rattle.std.proofs.lemmas.Map.Views.{list_any-from_Contains}
-use Rattle.nf_core.specs.Intervals.{Interval, same, interval_cmp, interval_cmp_total}
+use Rattle.nf_core.specs.Intervals.{Interval, interval_cmp_total}
 use Rattle.nf_core.specs.Sets.{has}
 use Rattle.nf_core.specs.Plan.{Plan, is_head, keys_of}
 use Rattle.nf_core.specs.declared.values.Value as value
 use Rattle.nf_core.specs.declared.intervals.Named.{Named}
 use Rattle.nf_core.specs.declared.intervals.Change.{Change}
-use Rattle.nf_model.specs.Changes.{Content, pool_of, heads, lacking, named, beyond, change, no_inputs, with_input}
+use Rattle.nf_model.specs.Changes.{Content, pool_of, heads, lacking, named, beyond, change, with_input}
 use Rattle.nfer_cli.proofs.Flat.{All-flat_map}
 use Rattle.nfer_cli.specs.Announcements.{change_text, lines_of}
 use Rattle.nfer_cli.specs.Trace.{Event}
-use Rattle.nfer_cli.specs.Follow.{entered, entered_at, row_from, content_after, text_at, follow_text}
+use Rattle.nfer_cli.specs.Follow.{entered, entered_at, row_from}
 use Rattle.std.specs.Prelude.{Result, Ok, Err, OnOk, IfErr}
 use Rattle.nf_io.specs.Bytes.{Took, Took-none}
 use Rattle.nfer_cli.specs.declared.status.Status.{Status}
-use Rattle.nfer_cli.specs.Progress.{Stopped, text_between, text_from, event_text, event_at, entered_as, event_interval_of}
+use Rattle.nfer_cli.specs.Progress.{Stopped, text_between, event_text, event_at, entered_as, event_interval_of}
 
 -- heads are names of the plan
 heads_within : (plan : Plan) → All (λ n. n < length plan.names) (heads plan)

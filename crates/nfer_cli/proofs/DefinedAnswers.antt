@@ -1,12 +1,12 @@
 -- Every question has a defined answer.
-use Rattle.std.proofs.Common.{◌≡◌, ℕ, zero, suc, ◌+◌, ◌<◌, ◌≤◌, max, Bool, true, false, cond, List, [], ◌∷◌, length, take, get_or, fold, flat_map, bytes_eq, refl, ap, sym, ◌∙◌, subst, arith, Option, Some, None, if◌then◌else◌}
+use Rattle.std.proofs.Common.{◌≡◌, ℕ, zero, suc, ◌+◌, ◌≤◌, max, Bool, true, false, cond, List, [], ◌∷◌, length, get_or, fold, flat_map, bytes_eq, refl, subst, arith, Option, Some, None, if◌then◌else◌}
 use Rattle.std.specs.Prelude.{nat_lt}
 use Rattle.std.proofs.lemmas.List.{take_all, get_or_default}
 use Rattle.nf_core.specs.Written.{Levels, names_in, plan_of, AreLevels}
 use Rattle.nf_core.specs.declared.trees.Rule.{Rule}
 use Rattle.nf_io.specs.Files.{Files, bytes_of}
 use Rattle.nfer_cli.specs.Words.{Asked, Follow, trace_word}
-use Rattle.nfer_cli.specs.Specification.{specification_limit, rules_of, reads_earlier_heads, IsPlanOf}
+use Rattle.nfer_cli.specs.Specification.{specification_limit, rules_of, reads_earlier_heads}
 use Rattle.nfer_cli.specs.RuleLevels.{level_over, with_level, AreFound}
 use Rattle.nfer_cli.specs.Answers.{Answer, Specified, TooLong, NoForm, Rules, refusal, followed, specified, in_form, FollowDefines, Defines}
 use Rattle.nfer_cli.specs.declared.status.Status.TheVariants as status

@@ -1,14 +1,11 @@
 -- The levels of all names, from those found over the rules.
-use Rattle.std.proofs.Common.{◌≡◌, ℕ, suc, ◌<◌, Bool, true, false, cond, ◌||◌, List, [], ◌∷◌, ◌++◌, length, get_or, map, filter, fold, flat_map, All, bytes_eq, refl, ap, sym, ◌∙◌, subst, append_assoc, append-nil, Option, Some, None, is_some, unwrap_or, if◌then◌else◌}
+use Rattle.std.proofs.Common.{◌≡◌, ℕ, suc, Bool, true, false, cond, ◌||◌, List, [], ◌∷◌, ◌++◌, get_or, map, filter, fold, flat_map, bytes_eq, refl, ap, sym, ◌∙◌, subst, append_assoc, append-nil, Option, Some, None, is_some, unwrap_or}
 use Rattle.std.specs.List.{list_any}
-use Rattle.std.specs.Map.{lookup}
 use Rattle.std.proofs.lemmas.List.Folds.{list_any_at, list_any-append}
 use Rattle.std.proofs.lemmas.Slice.Eq.{bytes_eq-Decides}
-use Rattle.nf_core.specs.Texts.{text_eq}
 use Rattle.nf_core.specs.Plan.{greatest}
-use Rattle.nf_core.specs.Written.{Levels, level_of_name, names_in, names_of, names_below, each_once, AreLevels, IsLevelOf}
+use Rattle.nf_core.specs.Written.{Levels, level_of_name, names_in, names_below, AreLevels, IsLevelOf}
 use Rattle.nf_core.specs.declared.trees.Rule.{Rule}
-use Rattle.nfer_cli.specs.Specification.{is_head_of}
 use Rattle.nfer_cli.specs.RuleLevels.{level_over, with_level, AreFound}
 use Rattle.nfer_cli.proofs.Bools.{neither}
 use Rattle.nfer_cli.proofs.EachOnce.{All-each_once}

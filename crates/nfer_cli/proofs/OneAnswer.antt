@@ -1,10 +1,10 @@
 -- No question has two defined answers.
-use Rattle.std.proofs.Common.{◌≡◌, ℕ, suc, Bool, true, false, cond, not, ◌&&◌, ◌||◌, List, [], ◌∷◌, ◌++◌, get_or, map, filter, flat_map, All, Contains, bytes_eq, refl, ap, sym, ◌∙◌, subst, append_assoc, Option, Some, None, unwrap_or}
-use Rattle.std.specs.List.{list_any, list_all, AllByRecursion}
+use Rattle.std.proofs.Common.{◌≡◌, ℕ, suc, Bool, true, false, cond, not, ◌&&◌, List, [], ◌∷◌, ◌++◌, get_or, map, filter, flat_map, All, Contains, bytes_eq, refl, ap, sym, ◌∙◌, subst, append_assoc, Option, Some, None, unwrap_or}
+use Rattle.std.specs.List.{list_all}
 use Rattle.std.proofs.lemmas.List.Folds.{list_all-append, list_all-map}
-use Rattle.std.proofs.lemmas.List.Elements.{All-nil, All-append, All-head, All-tail, All-filter, All-contains, All-contains_itself, All-from_recursion, All-weaker, Contains-get_or}
+use Rattle.std.proofs.lemmas.List.Elements.{All-nil, All-append, All-head, All-tail, All-filter, All-contains, All-from_recursion, All-weaker, Contains-get_or}
 use Rattle.nf_core.specs.Plan.{Plan, greatest}
-use Rattle.nf_core.specs.Written.{Levels, level_of_name, atoms_of, names_in, names_of, names_below, plan_of, AreLevels}
+use Rattle.nf_core.specs.Written.{Levels, level_of_name, atoms_of, names_of, names_below, plan_of, AreLevels}
 use Rattle.nf_core.specs.declared.trees.Atom.{Atom}
 use Rattle.nf_core.specs.declared.trees.Rule.{Rule}
 use Rattle.nf_core.proofs.PlanOf.{known_names}

@@ -1,28 +1,21 @@
 -- The rules of a specification can be planned, and their plan is one that the evaluator computes.
-use Rattle.std.proofs.Common.{◌≡◌, ℕ, suc, ◌+◌, ◌*◌, ◌<◌, ◌≤◌, ◌^◌, Bool, true, false, cond, not, ◌&&◌, ◌==◌, List, [], ◌∷◌, ◌++◌, length, get_or, map, fold, flat_map, All, IsTrue, bytes_eq, codes, refl, ap, sym, ◌∙◌, subst, Option, Some, None, option_map, option_and_then, arith, lit<, if◌then◌else◌}
-use Rattle.std.specs.List.{list_any, slice_split}
-use Rattle.std.proofs.lemmas.List.{length-append, length-map}
-use Rattle.std.proofs.lemmas.List.Sums.{count_by-le-length}
-use Rattle.std.proofs.lemmas.List.Splits.{length-slice_split}
-use Rattle.std.proofs.lemmas.List.Elements.{All-nil, All-append, All-head, All-tail, All-map}
+use Rattle.std.proofs.Common.{◌≡◌, ℕ, ◌+◌, ◌*◌, ◌<◌, ◌≤◌, ◌^◌, Bool, true, false, cond, List, [], ◌∷◌, ◌++◌, length, get_or, map, fold, flat_map, All, ap, sym, subst, Some, option_map, arith, lit<}
+use Rattle.std.specs.List.{list_any}
+use Rattle.std.proofs.lemmas.List.{length-append}
+use Rattle.std.proofs.lemmas.List.Elements.{All-nil, All-map}
 use Rattle.nf_core.specs.Texts.{text_eq}
-use Rattle.nf_core.specs.Identifiers.{is_identifier}
 use Rattle.nf_core.specs.Plan.{Plan}
 use Rattle.nf_core.specs.Written.{Levels, atoms_of, names_in, names_of, keys_of_name, link_of, plan_rule, plan_of, term_of, place_of, AreLevels, IsBare, CanBePlanned}
-use Rattle.nf_core.specs.declared.operators.Op.TheVariants.{Before}
 use Rattle.nf_core.specs.declared.trees.Atom.{Atom}
 use Rattle.nf_core.specs.declared.trees.Body.{Body}
 use Rattle.nf_core.specs.declared.trees.Body.TheVariants.{One, Pair, Unless}
 use Rattle.nf_core.specs.declared.trees.Entry.{Entry}
 use Rattle.nf_core.specs.declared.trees.Rule.{Rule}
-use Rattle.nf_core.specs.declared.terms.PlanRule.{PlanRule}
 use Rattle.nf_core.proofs.Bare.{keys_of_name-bare}
 use Rattle.nf_model.specs.Built.{IsBuilt, IsBuiltLink}
-use Rattle.nf_text.specs.Fields.{fields_of}
-use Rattle.nfer_cli.specs.Specification.{plain_atom, bare_rule, rule_of_words, rule_of, rules_of_pieces, rules_of, ordered_rules, reads_earlier_heads, specification_limit, IsPlanOf}
+use Rattle.nfer_cli.specs.Specification.{rules_of, specification_limit}
 use Rattle.nfer_cli.specs.ReadPlan.{IsReadFrom}
 use Rattle.nfer_cli.proofs.Flat.{All-flat_map}
-use Rattle.nfer_cli.proofs.Bools.{both}
 use Rattle.nfer_cli.proofs.EachOnce.{with_text, All-each_once}
 use Rattle.nfer_cli.proofs.Spelled.{IsName, IsPlainBody, IsPlainRule, AreRead, are_read}
 

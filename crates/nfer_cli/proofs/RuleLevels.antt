@@ -1,7 +1,7 @@
 -- The levels of names, found in one pass over the rules.
-use Rattle.std.proofs.Common.{◌≡◌, ℕ, suc, ◌+◌, ◌<◌, ◌≤◌, max, Bool, true, false, cond, not, ◌&&◌, ◌||◌, List, [], ◌∷◌, ◌++◌, length, take, drop, get_or, map, filter, fold, flat_map, bytes_eq, refl, ap, sym, ◌∙◌, subst, append_assoc, append-nil, arith, Bor, Some, unwrap_or, if◌then◌else◌}
+use Rattle.std.proofs.Common.{◌≡◌, ℕ, suc, ◌+◌, ◌<◌, ◌≤◌, max, Bool, true, false, cond, not, ◌&&◌, List, [], ◌∷◌, ◌++◌, length, take, drop, get_or, map, filter, fold, flat_map, bytes_eq, refl, ap, sym, ◌∙◌, subst, append-nil, arith, Bor, Some, unwrap_or}
 use Rattle.std.specs.Map.{lookup}
-use Rattle.std.specs.List.{list_any, list_all}
+use Rattle.std.specs.List.{list_all}
 use Rattle.std.proofs.lemmas.List.{map-append, take_more, drop_more, take-append-drop}
 use Rattle.std.proofs.lemmas.List.Sums.{fold-append}
 use Rattle.std.proofs.lemmas.List.Folds.{list_all-append, list_all-map}

@@ -1,6 +1,5 @@
 -- What the rules of a specification are: in ASCII, plain, few, and each body reads earlier heads alone.
-use Rattle.std.proofs.Common.{◌≡◌, ℕ, ◌+◌, ◌<◌, ◌≤◌, Bool, true, false, cond, not, ◌&&◌, ◌==◌, List, [], ◌∷◌, length, All, IsTrue, bytes_eq, codes, refl, ap, sym, ◌∙◌, subst, Option, Some, None, option_map, option_and_then, arith, lit<, if◌then◌else◌}
-use Rattle.std.specs.List.{slice_split}
+use Rattle.std.proofs.Common.{◌≡◌, ℕ, ◌+◌, ◌≤◌, Bool, true, false, not, ◌&&◌, ◌==◌, List, [], ◌∷◌, length, All, IsTrue, bytes_eq, codes, refl, subst, Option, Some, None, option_map, option_and_then, arith, lit<, if◌then◌else◌}
 use Rattle.std.specs.Str.{IsAscii, IsUtf8}
 use Rattle.std.proofs.lemmas.List.Sums.{count_by-le-length}
 use Rattle.std.proofs.lemmas.List.Splits.{length-slice_split, join_with_byte-slice_split}

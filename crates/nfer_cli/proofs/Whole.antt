@@ -1,20 +1,20 @@
 -- The whole answer, from those of its parts.
-use Rattle.std.proofs.Common.{◌≡◌, ℕ, ◌<◌, ◌≤◌, Bool, true, false, cond, List, [], length, Option, Some, None, refl, sym, ◌∙◌, ap, subst, arith}
+use Rattle.std.proofs.Common.{◌≡◌, ℕ, ◌<◌, ◌≤◌, Bool, true, false, cond, List, length, Option, Some, None, refl, sym, ◌∙◌, ap, subst, arith}
 use Rattle.std.specs.Prelude.{IfSome, nat_lt}
 use Rattle.std.proofs.lemmas.Bool.Decides.{nat_tests}
 use Rattle.nf_core.specs.Plan.{Plan}
 use Rattle.nf_core.specs.declared.trees.Rule.{Rule}
 use Rattle.nf_io.specs.Files.{Files, bytes_of}
 use Rattle.nf_io.specs.Causes.{Rose}
-use Rattle.nf_io.specs.Bytes.{Took, Took-none, TookPrefix-none}
+use Rattle.nf_io.specs.Bytes.{Took-none, TookPrefix-none}
 use Rattle.nf_model.specs.Changes.{no_inputs}
 use Rattle.nfer_cli.specs.Lines.{cut}
 use Rattle.nfer_cli.specs.Trace.{Ending, Done, Refused, InNoForm, Falls, trace}
 use Rattle.nfer_cli.specs.Follow.{follow_text}
-use Rattle.nfer_cli.specs.Specification.{specification_limit, rules_of, IsPlanOf}
+use Rattle.nfer_cli.specs.Specification.{specification_limit, rules_of}
 use Rattle.nfer_cli.specs.ReadPlan.{IsReadFrom}
 use Rattle.nfer_cli.specs.Words.{Asked, Follow, trace_word}
-use Rattle.nfer_cli.specs.Answers.{Answer, refusal, trace_limit, status_of, followed, Specified, TooLong, NoForm, Rules, in_form, specified, FollowDefines, Defines, is_known_before, EndsFor, Wrote, Answers, IfReadFault, CannotRead, IsCompleteFor}
+use Rattle.nfer_cli.specs.Answers.{Answer, refusal, trace_limit, status_of, followed, Specified, TooLong, NoForm, Rules, in_form, specified, FollowDefines, Defines, is_known_before, Answers, IfReadFault, CannotRead, IsCompleteFor}
 use Rattle.nfer_cli.specs.Progress.{answer_from, Ended}
 use Rattle.nfer_cli.specs.declared.status.Status.{Status}
 use Rattle.nfer_cli.specs.declared.status.Status.TheVariants as status

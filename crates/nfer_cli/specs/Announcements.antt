@@ -1,10 +1,9 @@
 -- Announcement lines, their order, and the text of a change.
-use Rattle.std.specs.Prelude.{ℕ, ℤ, Bool, true, false, List, [], ◌∷◌, ◌++◌, map, fold, flat_map, filter_map, zip, Option, option_map, codes, slice_index_or, if◌then◌else◌}
+use Rattle.std.specs.Prelude.{ℕ, ℤ, List, [], ◌∷◌, ◌++◌, map, fold, flat_map, filter_map, zip, Option, option_map, codes, slice_index_or, if◌then◌else◌}
 use Rattle.std.specs.declared.cmp.Ordering.{Ordering}
 use Rattle.std.specs.Ordering.{ordering_then, int_cmp, is_gt}
 use Rattle.std.specs.Fmt.{signed_decimal}
 use Rattle.nf_core.specs.Texts.{text_cmp}
-use Rattle.nf_core.specs.Intervals.{Interval}
 use Rattle.nf_core.specs.Plan.{Plan, keys_of}
 use Rattle.nf_core.specs.declared.values.Value as value
 use Rattle.nf_core.specs.declared.values.Value.TheVariants as variant

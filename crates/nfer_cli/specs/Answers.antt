@@ -7,7 +7,7 @@ use Rattle.nf_io.specs.Causes.{Rose}
 use Rattle.nf_io.specs.Bytes.{Took, TookPart, TookPrefix}
 use Rattle.nfer_cli.specs.Words.{Asked, Follow, trace_word}
 use Rattle.nfer_cli.specs.Specification.{specification_limit, rules_of, IsPlanOf}
-use Rattle.nfer_cli.specs.Trace.{Ending, Done, Refused, Refusal, InNoForm, Falls, trace}
+use Rattle.nfer_cli.specs.Trace.{Ending, Done, Refused, InNoForm, Falls, trace}
 use Rattle.nfer_cli.specs.Follow.{follow_text}
 use Rattle.nfer_cli.specs.declared.status.Status.{Status}
 use Rattle.nfer_cli.specs.declared.status.Status.TheVariants as status

@@ -1,5 +1,5 @@
 -- What `follow` writes: the text of each line's change, every prefix of the trace computed anew.
-use Rattle.std.specs.Prelude.{ℕ, ◌+◌, Bool, List, [], map, fold, flat_map, reverse, take, length, position, bytes_eq, Option, Some, None}
+use Rattle.std.specs.Prelude.{ℕ, ◌+◌, Bool, List, map, fold, flat_map, reverse, take, length, position, bytes_eq, Option, Some, None}
 use Rattle.std.specs.List.{range_with_len}
 use Rattle.std.specs.Map.{lookup}
 use Rattle.nf_core.specs.declared.values.Value as value

@@ -1,5 +1,5 @@
 -- The one line that standard error gets at each status.
-use Rattle.std.specs.Prelude.{ℕ, ℤ, List, [], ◌++◌, codes, decimal}
+use Rattle.std.specs.Prelude.{ℕ, List, [], ◌++◌, codes, decimal}
 use Rattle.std.specs.Fmt.{signed_decimal}
 use Rattle.nfer_cli.specs.Words.{file_word}
 use Rattle.nfer_cli.specs.declared.status.Status.{Status}

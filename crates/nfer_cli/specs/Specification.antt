@@ -1,9 +1,9 @@
 -- The specifications of this stage: rules `H :- A` and `H :- A before B`, line by line.
-use Rattle.std.specs.Prelude.{◌≡◌, ℕ, Bool, true, not, ◌&&◌, List, [], ◌∷◌, length, map, bytes_eq, codes, nat_lt, Option, Some, None, option_map, option_and_then, if◌then◌else◌}
+use Rattle.std.specs.Prelude.{◌≡◌, ℕ, Bool, true, not, ◌&&◌, List, [], ◌∷◌, bytes_eq, codes, Option, Some, None, option_map, option_and_then, if◌then◌else◌}
 use Rattle.std.specs.List.{list_any, list_all}
 use Rattle.nf_core.specs.Identifiers.{is_identifier}
 use Rattle.nf_core.specs.Plan.{Plan}
-use Rattle.nf_core.specs.Written.{atoms_of, names_of, plan_of, Levels, AreLevels}
+use Rattle.nf_core.specs.Written.{atoms_of, plan_of, Levels, AreLevels}
 use Rattle.nf_core.specs.declared.operators.Op.TheVariants.{Before}
 use Rattle.nf_core.specs.declared.trees.Atom.{Atom}
 use Rattle.nf_core.specs.declared.trees.Body.{Body}

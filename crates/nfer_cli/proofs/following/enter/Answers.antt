@@ -1,4 +1,4 @@
-use Rattle.std.proofs.Common.{◌≡◌, ℕ, Some, None, rules}
+use Rattle.std.proofs.Common.{◌≡◌, Some, None, rules}
 use Rattle.std.specs.Prelude.{position, bytes_eq}
 use Rattle.nfer_cli.proofs.Changed.{known_taken, known_stopped, unknown_taken, found_in}
 use Rattle.nfer_cli.proofs.following.enter.Goals as goal

@@ -1,8 +1,8 @@
-use Rattle.std.proofs.Common.{◌≡◌, ℕ, List, [], ◌∷◌, ◌+◌, Some, None, sym, ◌∙◌, ap, subst, rules}
+use Rattle.std.proofs.Common.{◌≡◌, ℕ, List, ◌∷◌, ◌+◌, Some, None, sym, ◌∙◌, ap, subst, rules}
 use Rattle.nf_model.specs.Changes.{Content}
 use Rattle.std.specs.Prelude.{IsSome, IfSome}
 use Rattle.nf_io.specs.Bytes.{Took}
-use Rattle.nfer_cli.specs.Trace.{line, Accepted, InNoForm, Refused, fallen}
+use Rattle.nfer_cli.specs.Trace.{InNoForm, Refused, fallen}
 use Rattle.nfer_cli.specs.Follow.{entered}
 use Rattle.nfer_cli.specs.Answers.{status_of}
 use Rattle.nfer_cli.specs.Progress.{Ended, Advances, Stopped, answer_from, event_text, event_at}

@@ -1,4 +1,4 @@
-use Rattle.std.proofs.Common.{◌≡◌, ◌-◌, ◌<◌, length, take, true, false, sym, ◌∙◌, arith, length-take}
+use Rattle.std.proofs.Common.{◌-◌, ◌<◌, length, take, sym, ◌∙◌, arith, length-take}
 use Rattle.nfer_cli.proofs.Order.{none_known, one_more, one_refused, all_known}
 use Rattle.nfer_cli.proofs.heads.reads_earlier_heads.Goals as goal
 

@@ -1,4 +1,4 @@
-use Rattle.std.proofs.Common.{◌≡◌, ◌+◌, ◌<◌, length, Some, sym, ◌∙◌, ap, subst, true, arith}
+use Rattle.std.proofs.Common.{◌≡◌, Some, sym, ◌∙◌, ap, subst, arith}
 use Rattle.nf_core.specs.Written.{AreLevels}
 use Rattle.nfer_cli.specs.Specification.{rules_of, reads_earlier_heads}
 use Rattle.nfer_cli.proofs.Spelled.{are_read}

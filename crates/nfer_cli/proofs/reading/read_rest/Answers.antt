@@ -1,4 +1,4 @@
-use Rattle.std.proofs.Common.{rules, ◌≡◌, false}
+use Rattle.std.proofs.Common.{rules}
 use Rattle.nfer_cli.proofs.reading.read_rest.Goals as goal
 
 pub returns-clause-end : goal.returns-clause-end

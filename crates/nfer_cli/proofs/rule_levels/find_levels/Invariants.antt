@@ -1,4 +1,3 @@
-use Rattle.std.proofs.Common.{take}
 use Rattle.nfer_cli.specs.RuleLevels.{level_in}
 use Rattle.nfer_cli.proofs.RuleLevels.{AreSoFar}
 use Rattle.nfer_cli.proofs.rule_levels.find_levels.Given as goal

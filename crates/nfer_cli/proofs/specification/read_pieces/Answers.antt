@@ -1,6 +1,5 @@
-use Rattle.std.proofs.Common.{◌≡◌, ◌∷◌, [], ◌∙◌, sym, ap, Some, None, rules}
-use Rattle.nf_text.specs.Fields.{fields_of}
-use Rattle.nfer_cli.specs.Specification.{rules_of_pieces, rule_of}
+use Rattle.std.proofs.Common.{◌≡◌, ◌∙◌, sym, ap, Some, None, rules}
+use Rattle.nfer_cli.specs.Specification.{rule_of}
 use Rattle.nfer_cli.proofs.RulePieces.{in_front, skipped, taken, refused, ended}
 use Rattle.nfer_cli.proofs.specification.read_pieces.Goals as goal
 
