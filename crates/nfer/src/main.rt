@@ -7,11 +7,10 @@ ghost use Rattle.std.specs.Prelude.{◌≡◌};
 use nf_core::{NoMemory, Steps};
 use nf_io::{RealShelf, RealSink};
 use nfer_cli::{Status, Words, run};
-use std::env;
-use std::io;
 use std::marker::Brand;
 use std::process::ExitCode;
 use std::sync::ledger::{Blank, Ledger};
+use std::{env, io};
 
 /// Why there are no words to run.
 #[derive(Debug, Clone, Copy, PartialEq, Eq)]
