@@ -5,6 +5,7 @@ pub mod Intervals
 pub mod Sets
 pub mod Relations
 pub mod Expressions
+pub mod Kinds
 pub mod Identifiers
 pub mod Plan
 pub mod Written
