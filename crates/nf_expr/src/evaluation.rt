@@ -1,0 +1,85 @@
+//! Expressions over one or two members.
+
+ghost use Rattle.std.specs.Prelude.{◌≡◌, ◌+◌, nat_lt, slice_index, option_map, option_and_then, slice_index_or, None, IsTrue};
+ghost use Rattle.std.specs.Option.{option_copied};
+ghost use Rattle.nf_core.specs.Expressions as spec;
+ghost use Rattle.nf_core.specs.Intervals.{Interval as IntervalOf};
+ghost use Rattle.nf_expr.specs.Seen.{value_seen};
+
+use crate::operators::{binary, inverted, negated};
+use crate::seen::Seen;
+use nf_core::{Interval, Steps, Term};
+use std::sync::ledger::Ledger;
+
+/// The value of an expression.
+pub fn eval<'a, L: Ledger>(
+    term: &'a Term,
+    first: &'a Interval,
+    second: Option<&'a Interval>,
+    steps: &mut Steps<L>,
+) -> Option<Seen<'a>>
+    requires { IsTrue (spec.reads_within (spec.widths_of first.now (option_copied second)) term.now) }
+    ensures value { option_map value_seen result ≡ spec.value_of first.now (option_copied second.entry) term.now }
+    ensures steps { steps.new ≡ steps.old + 1 }
+{
+    steps.tick();
+    value_of(term, first, second)
+}
+
+// The value of an expression, node by node.
+#[tactic(auto, unfolding(nf_core::specs::Expressions::value_of, nf_core::specs::Expressions::value_of_node, nf_core::specs::Expressions::reads_within, nf_core::specs::Expressions::reads_within_node))]
+fn value_of<'a>(
+    term: &'a Term,
+    first: &'a Interval,
+    second: Option<&'a Interval>,
+) -> Option<Seen<'a>>
+    requires { IsTrue (spec.reads_within (spec.widths_of first.now (option_copied second)) term.now) }
+    ensures { option_map value_seen result ≡ spec.value_of first.now (option_copied second.entry) term.now }
+{
+    match term {
+        Term::Bool(b) => Some(Seen::Bool(*b)),
+        Term::Int(n) => Some(Seen::Int(*n)),
+        Term::Text(text) => Some(Seen::Text(text)),
+        Term::Start(number) => Some(Seen::Int(member(first, second, *number)?.start)),
+        Term::Stop(number) => Some(Seen::Int(member(first, second, *number)?.stop)),
+        Term::Key(number, place) => key(first, second, *number, *place),
+        Term::Neg(operand) => negated(value_of(operand.get(), first, second)?),
+        Term::Not(operand) => inverted(value_of(operand.get(), first, second)?),
+        Term::Bin(op, left, right) => {
+            let left = value_of(left.get(), first, second)?;
+            let right = value_of(right.get(), first, second)?;
+            binary(*op, left, right)
+        }
+    }
+}
+
+// Member 0 is the first one, and member 1 the second.
+#[tactic(auto, unfolding(nf_core::specs::Expressions::member))]
+fn member<'a>(
+    first: &'a Interval,
+    second: Option<&'a Interval>,
+    number: u8,
+) -> Option<&'a Interval>
+    ensures { option_copied result ≡ spec.member first.now (option_copied second.entry) number }
+{
+    match number {
+        0 => Some(first),
+        1 => second,
+        _ => None,
+    }
+}
+
+// The value of a key of a member, by its place in the member's row.
+#[tactic(auto, unfolding(nf_core::specs::Expressions::member))]
+fn key<'a>(
+    first: &'a Interval,
+    second: Option<&'a Interval>,
+    number: u8,
+    place: u32,
+) -> Option<Seen<'a>>
+    requires { IsTrue (nat_lt place (slice_index (spec.widths_of first.now (option_copied second)) number)) }
+    ensures { option_map value_seen result ≡ option_and_then (λ (i : IntervalOf). slice_index_or i.row place None) (spec.member first.now (option_copied second.entry) number) }
+{
+    let value = member(first, second, number)?.row.get(place as usize)?;
+    Some(Seen::of(value))
+}
