@@ -1,9 +1,10 @@
 //! Expressions over one or two members.
 
-ghost use Rattle.std.specs.Prelude.{◌≡◌, ◌+◌, nat_lt, slice_index, option_map, option_and_then, slice_index_or, None, IsTrue};
+ghost use Rattle.std.specs.Prelude.{◌≡◌, ◌+◌, nat_lt, slice_index, option_map, option_and_then, slice_index_or, None, IfSome, IsTrue};
 ghost use Rattle.std.specs.Option.{option_copied};
 ghost use Rattle.nf_core.specs.Expressions as spec;
 ghost use Rattle.nf_core.specs.Intervals.{Interval as IntervalOf};
+ghost use Rattle.nf_core.specs.Kinds.{Kind, kind_of_term, IsOfKind};
 ghost use Rattle.nf_expr.specs.Seen.{value_seen};
 
 use crate::operators::{binary, inverted, negated};
@@ -12,6 +13,7 @@ use nf_core::{Interval, Steps, Term};
 use std::sync::ledger::Ledger;
 
 /// The value of an expression.
+#[tactic(auto, using(crate::proofs::OfKind::seen_is_of_kind))]
 pub fn eval<'a, L: Ledger>(
     term: &'a Term,
     first: &'a Interval,
@@ -20,6 +22,7 @@ pub fn eval<'a, L: Ledger>(
 ) -> Option<Seen<'a>>
     requires { IsTrue (spec.reads_within (spec.widths_of first.now (option_copied second)) term.now) }
     ensures value { option_map value_seen result ≡ spec.value_of first.now (option_copied second.entry) term.now }
+    ensures kind { (k : Kind) → kind_of_term term.now ≡ Some k → IfSome result (λ seen. IsOfKind k (value_seen seen)) }
     ensures steps { steps.new ≡ steps.old + 1 }
 {
     steps.tick();
