@@ -2,8 +2,10 @@
 #![tactic(auto)]
 
 mod evaluation;
+mod laws;
 mod operators;
 mod seen;
 
 pub use evaluation::eval;
+pub use laws::expressions_are_no_deeper_than_operators;
 pub use seen::Seen;
