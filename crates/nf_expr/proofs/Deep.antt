@@ -1,7 +1,7 @@
 -- An expression is at most one deeper than it has operators.
-use Rattle.std.proofs.Common.{◌≡◌, ℕ, ◌+◌, ◌≤◌, max, arith, subst, refl}
+use Rattle.std.proofs.Common.{◌≡◌, ℕ, ◌+◌, ◌≤◌, max, arith, subst}
 use Rattle.nf_core.specs.Expressions.{operators_of, operators_of_node}
-use Rattle.nf_core.specs.declared.terms.Term.{Term, Term-F, fold-Term, fold-roll-Term, map-Term, roll-Term, ind-Term}
+use Rattle.nf_core.specs.declared.terms.Term.{Term, Term-F, fold-roll-Term, map-Term, roll-Term, ind-Term}
 use Rattle.nf_core.specs.declared.terms.Term.TheOpen as node
 use Rattle.nf_expr.specs.Depth.{depth_of, depth_of_node}
 

@@ -1,8 +1,8 @@
 -- A value of an expression has the kind of the expression. Each operator gives values of one kind, whatever its operands are.
-use Rattle.std.proofs.Common.{◌≡◌, ℕ, ℤ, Bool, true, false, cond, Option, Some, None, IfSome, option_and_then, option_map, refl, ap, sym, ◌∙◌, subst}
+use Rattle.std.proofs.Common.{◌≡◌, ℤ, Bool, true, false, cond, Option, Some, None, IfSome, option_and_then, option_map, refl, sym, subst}
 use Rattle.nf_core.specs.Intervals.{Interval}
 use Rattle.nf_core.specs.Expressions.{in_range, of_ints, of_bools, binary, negated, inverted, member, value_of_node, value_of}
-use Rattle.nf_core.specs.Kinds.{Kind, Number, Truth, Text, Any, may_be_number, may_be_truth, takes, gives, kind_of_negated, kind_of_inverted, kind_of_binary, kind_of_node, kind_of_term, kind_of_value, IsOfKind}
+use Rattle.nf_core.specs.Kinds.{Kind, Number, Truth, Text, Any, may_be_number, may_be_truth, gives, kind_of_negated, kind_of_inverted, kind_of_binary, kind_of_node, kind_of_term, kind_of_value, IsOfKind}
 use Rattle.nf_core.specs.declared.values.Value.{Value}
 use Rattle.nf_core.specs.declared.values.Value.TheVariants as v
 use Rattle.nf_core.specs.declared.operators.BinOp.{BinOp}

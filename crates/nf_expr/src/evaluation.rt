@@ -58,7 +58,7 @@ fn value_of<'a>(
 
 // Member 0 is the first one, and member 1 the second.
 #[tactic(auto, unfolding(nf_core::specs::Expressions::member))]
-fn member<'a>(
+pub(crate) fn member<'a>(
     first: &'a Interval,
     second: Option<&'a Interval>,
     number: u8,

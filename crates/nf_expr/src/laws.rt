@@ -11,5 +11,4 @@ ghost use Rattle.nf_expr.specs.Depth.{depth_of};
 #[tactic(auto, using(crate::proofs::Deep::depth_within))]
 pub fn expressions_are_no_deeper_than_operators()
     ensures { (term : Term) → depth_of term ≤ operators_of term + 1 }
-{
-}
+{}

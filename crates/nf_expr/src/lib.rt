@@ -5,6 +5,8 @@ mod evaluation;
 mod laws;
 mod operators;
 mod seen;
+#[cfg(test)]
+mod tests;
 
 pub use evaluation::eval;
 pub use laws::expressions_are_no_deeper_than_operators;
