@@ -1,4 +1,5 @@
 //! The operators of expressions on values.
+#![tactic(auto, using(crate::proofs::Equal::text_eq_is), unfolding(nf_core::specs::Expressions::negated, nf_core::specs::Expressions::inverted, nf_core::specs::Expressions::binary, nf_core::specs::Expressions::of_bools, nf_core::specs::Expressions::of_ints, nf_core::specs::Expressions::in_range))]
 
 ghost use Rattle.std.specs.Prelude.{◌≡◌, ◌≢◌, option_map};
 ghost use Rattle.nf_core.specs.Expressions as spec;
@@ -11,7 +12,6 @@ use nf_core::{BinOp, Text};
 
 /// Unary `-`: of a whole number, where the result is in range. Else None (`negated` of nf_core's
 /// specs/Expressions).
-#[tactic(auto, unfolding(nf_core::specs::Expressions::negated, nf_core::specs::Expressions::in_range))]
 pub(crate) fn negated(operand: Seen<'_>) -> Option<Seen<'_>>
     ensures { option_map value_seen result ≡ spec.negated (value_seen operand.entry) }
 {
@@ -22,7 +22,6 @@ pub(crate) fn negated(operand: Seen<'_>) -> Option<Seen<'_>>
 }
 
 /// `!`: of a truth value. Else None (`inverted` of nf_core's specs/Expressions).
-#[tactic(auto, unfolding(nf_core::specs::Expressions::inverted))]
 pub(crate) fn inverted(operand: Seen<'_>) -> Option<Seen<'_>>
     ensures { option_map value_seen result ≡ spec.inverted (value_seen operand.entry) }
 {
@@ -34,6 +33,7 @@ pub(crate) fn inverted(operand: Seen<'_>) -> Option<Seen<'_>>
 
 /// An operator with two operands. None where it doesn't take values of their kinds, and where the
 /// result is out of range (`binary` of nf_core's specs/Expressions).
+#[tactic(auto)]
 pub(crate) fn binary<'a>(op: BinOp, left: Seen<'a>, right: Seen<'a>) -> Option<Seen<'a>>
     ensures { option_map value_seen result ≡ spec.binary op (value_seen left.entry) (value_seen right.entry) }
 {
@@ -46,7 +46,6 @@ pub(crate) fn binary<'a>(op: BinOp, left: Seen<'a>, right: Seen<'a>) -> Option<S
 }
 
 // An operator on two truth values.
-#[tactic(auto, unfolding(nf_core::specs::Expressions::binary, nf_core::specs::Expressions::of_bools, nf_core::specs::Expressions::of_ints))]
 fn of_truths<'a>(op: BinOp, p: bool, q: bool) -> Option<Seen<'a>>
     ensures { option_map value_seen result ≡ spec.binary op (variant.Bool p) (variant.Bool q) }
 {
@@ -60,7 +59,6 @@ fn of_truths<'a>(op: BinOp, p: bool, q: bool) -> Option<Seen<'a>>
 }
 
 // An operator on two whole numbers.
-#[tactic(auto, unfolding(nf_core::specs::Expressions::binary, nf_core::specs::Expressions::of_bools, nf_core::specs::Expressions::of_ints, nf_core::specs::Expressions::in_range))]
 fn of_numbers<'a>(op: BinOp, m: i64, n: i64) -> Option<Seen<'a>>
     ensures { option_map value_seen result ≡ spec.binary op (variant.Int m) (variant.Int n) }
 {
@@ -81,7 +79,6 @@ fn of_numbers<'a>(op: BinOp, m: i64, n: i64) -> Option<Seen<'a>>
 }
 
 // An operator on two texts.
-#[tactic(auto, using(crate::proofs::Equal::text_eq_is), unfolding(nf_core::specs::Expressions::binary, nf_core::specs::Expressions::of_bools, nf_core::specs::Expressions::of_ints))]
 fn of_texts<'a>(op: BinOp, s: &Text, t: &Text) -> Option<Seen<'a>>
     ensures { option_map value_seen result ≡ spec.binary op (variant.Text s.now) (variant.Text t.now) }
 {
@@ -93,7 +90,6 @@ fn of_texts<'a>(op: BinOp, s: &Text, t: &Text) -> Option<Seen<'a>>
 }
 
 // An operator on two values of different kinds.
-#[tactic(auto, unfolding(nf_core::specs::Expressions::binary, nf_core::specs::Expressions::of_bools, nf_core::specs::Expressions::of_ints))]
 fn of_unlike<'a>(op: BinOp, left: Seen<'a>, right: Seen<'a>) -> Option<Seen<'a>>
     requires { kind_of_value (value_seen left) ≢ kind_of_value (value_seen right) }
     ensures { option_map value_seen result ≡ spec.binary op (value_seen left.entry) (value_seen right.entry) }
