@@ -1,4 +1,5 @@
 pub mod Worked
+pub mod KindCases
 pub mod Maps
 pub mod EachOnce
 pub mod Ascending
@@ -6,4 +7,3 @@ pub mod PlanOf
 pub mod Bare
 pub mod Loops
 pub mod Example
-pub mod KindCases

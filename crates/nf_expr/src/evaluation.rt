@@ -12,7 +12,22 @@ use crate::seen::Seen;
 use nf_core::{Interval, Steps, Term};
 use std::sync::ledger::Ledger;
 
-/// The value of an expression.
+/// The value of an expression over one or two members, as lent: member 0 is `first`, and member 1 is
+/// `second`. None exactly where the value is Undefined (`value_of` of nf_core's specs/Expressions).
+/// Where the expression has a kind, its value is of that kind (`kind_of_term` of nf_core's
+/// specs/Kinds).
+///
+/// The expression must read no members but these, the second one only where it is given, and keys
+/// only at places, counted from 0, that the rows of these members have (`reads_within` of nf_core's
+/// specs/Expressions).
+///
+/// All operands are evaluated, so an Undefined one makes the value Undefined, also at `&` and `|`.
+/// One call raises the counter by exactly 1, however many operators there are. No memory is taken:
+/// a text is lent from the expression or from a row.
+///
+/// The evaluation calls itself for each operand, so it stands as many calls deep as the expression
+/// has nodes on a way down, which is at most one more than it has operators. An expression of a plan
+/// has at most 256 operators: at most 257 calls.
 #[tactic(auto, using(crate::proofs::OfKind::seen_is_of_kind))]
 pub fn eval<'a, L: Ledger>(
     term: &'a Term,
