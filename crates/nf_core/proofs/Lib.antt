@@ -1,4 +1,5 @@
 pub mod Worked
+pub mod KindCases
 pub mod Maps
 pub mod EachOnce
 pub mod Ascending

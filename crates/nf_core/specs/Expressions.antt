@@ -1,5 +1,5 @@
 -- The value of an expression over one or two members. Undefined is no value.
-use Rattle.std.specs.Prelude.{ℕ, zero, suc, ℤ, pos, negsuc, ◌+ℤ◌, ◌-ℤ◌, ◌*ℤ◌, neg_ℤ, int_lt, int_le, int_div, int_rem, Bool, not, ◌&&◌, ◌||◌, Option, Some, None, option_and_then, slice_index_or, if◌then◌else◌}
+use Rattle.std.specs.Prelude.{ℕ, zero, suc, ◌+◌, nat_lt, ℤ, pos, negsuc, ◌+ℤ◌, ◌-ℤ◌, ◌*ℤ◌, neg_ℤ, int_lt, int_le, int_div, int_rem, Bool, true, not, ◌&&◌, ◌||◌, Option, Some, None, option_and_then, option_to_list, List, ◌∷◌, map, length, slice_index, slice_index_or, if◌then◌else◌}
 use Rattle.std.specs.Ordering.{int_eq, is_eq}
 use Rattle.nf_core.specs.Texts.{int_least, int_greatest}
 use Rattle.nf_core.specs.Values.{value_cmp}
@@ -86,3 +86,39 @@ module _ (first : Interval) (second : Option Interval) where
   -- the value of an expression, node by node
   unfoldable pub value_of : term.Term → Option value.Value
   value_of = fold-Term (Option value.Value) value_of_node
+
+-- how many cells the row of each member has: of the first, and of the second where there is one
+abbrev pub widths_of : Interval → Option Interval → List ℕ
+widths_of first second = map (λ (i : Interval). length i.row) (first ∷ option_to_list second)
+
+-- whether the reads of a node are within widths, given whether those of its operands are: a begin or an end is of a member that is there, and a key is at a place below its member's width
+unfoldable pub reads_within_node : List ℕ → node.Term-F Bool → Bool
+reads_within_node widths (node.Bool b) = true
+reads_within_node widths (node.Int n) = true
+reads_within_node widths (node.Text t) = true
+reads_within_node widths (node.Start m) = nat_lt m (length widths)
+reads_within_node widths (node.Stop m) = nat_lt m (length widths)
+reads_within_node widths (node.Key m place) = nat_lt place (slice_index widths m)
+reads_within_node widths (node.Neg a) = a
+reads_within_node widths (node.Not a) = a
+reads_within_node widths (node.Bin op a b) = a && b
+
+-- an expression reads only members that are there and keys at places of their rows, where the rows of the members have so many cells; a member that isn't there has none
+unfoldable pub reads_within : List ℕ → term.Term → Bool
+reads_within widths = fold-Term Bool (reads_within_node widths)
+
+-- how many operators a node has with its operands, given how many these have
+unfoldable pub operators_of_node : node.Term-F ℕ → ℕ
+operators_of_node (node.Bool b) = 0
+operators_of_node (node.Int n) = 0
+operators_of_node (node.Text t) = 0
+operators_of_node (node.Start m) = 0
+operators_of_node (node.Stop m) = 0
+operators_of_node (node.Key m place) = 0
+operators_of_node (node.Neg a) = a + 1
+operators_of_node (node.Not a) = a + 1
+operators_of_node (node.Bin op a b) = a + b + 1
+
+-- how many operators an expression has, those with one operand and those with two
+unfoldable pub operators_of : term.Term → ℕ
+operators_of = fold-Term ℕ operators_of_node

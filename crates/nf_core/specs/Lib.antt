@@ -6,7 +6,8 @@ pub mod Sets
 pub mod Relations
 pub mod Expressions
 pub mod Identifiers
-pub mod Plan
 pub mod Trees
+pub mod Kinds
+pub mod Plan
 pub mod Written
 pub mod Example
