@@ -3,7 +3,7 @@ use Rattle.std.specs.Prelude.{◌≡◌, ℕ, Bool, true, false, ◌&&◌, List,
 use Rattle.std.specs.List.{list_any, IsDistinct}
 use Rattle.nf_core.specs.Texts.{text_eq}
 use Rattle.nf_core.specs.Trees.{Tree, tree, Rule, atoms_of}
-use Rattle.nf_core.specs.Trees.Tree as tree
+use Rattle.nf_core.specs.Trees as of
 use Rattle.nf_core.specs.declared.trees.Atom.{Atom}
 use Rattle.nf_core.specs.declared.trees.Entry.{Entry}
 use Rattle.nf_core.specs.declared.trees.Body.{Body}
@@ -131,15 +131,15 @@ is_map_value (Some k) = true
 
 -- the kind of an expression over members with these labels: a literal has its own kind, a begin and an end are Number, and a key is Any; none where a label isn't one of them, or an operator has an operand of a kind that it doesn't take
 unfoldable pub kind_of_tree : List (List ℕ) → Tree → Option Kind
-kind_of_tree labels (tree.Bool b) = Some Truth
-kind_of_tree labels (tree.Int n) = Some Number
-kind_of_tree labels (tree.Text t) = Some Text
-kind_of_tree labels (tree.Start label) = if list_any (bytes_eq label) labels then Some Number else None
-kind_of_tree labels (tree.Stop label) = if list_any (bytes_eq label) labels then Some Number else None
-kind_of_tree labels (tree.Key label key) = if list_any (bytes_eq label) labels then Some Any else None
-kind_of_tree labels (tree.Neg a) = kind_of_negated (kind_of_tree labels a)
-kind_of_tree labels (tree.Not a) = kind_of_inverted (kind_of_tree labels a)
-kind_of_tree labels (tree.Bin o a b) = kind_of_binary o (kind_of_tree labels a) (kind_of_tree labels b)
+kind_of_tree labels (of.Bool b) = Some Truth
+kind_of_tree labels (of.Int n) = Some Number
+kind_of_tree labels (of.Text t) = Some Text
+kind_of_tree labels (of.Start label) = if list_any (bytes_eq label) labels then Some Number else None
+kind_of_tree labels (of.Stop label) = if list_any (bytes_eq label) labels then Some Number else None
+kind_of_tree labels (of.Key label key) = if list_any (bytes_eq label) labels then Some Any else None
+kind_of_tree labels (of.Neg a) = kind_of_negated (kind_of_tree labels a)
+kind_of_tree labels (of.Not a) = kind_of_inverted (kind_of_tree labels a)
+kind_of_tree labels (of.Bin o a b) = kind_of_binary o (kind_of_tree labels a) (kind_of_tree labels b)
 
 -- the labels of a body's atoms in reading order
 abbrev pub labels_of : Body → List (List ℕ)
