@@ -1,5 +1,5 @@
 -- Kinds, reads and operators of expressions computed on worked cases. What is expected was worked out by hand from the rules.
-use Rattle.std.specs.Prelude.{◌≡◌, ℕ, pos, Bool, true, false, List, [], ◌∷◌, map, Option, Some, None, codes}
+use Rattle.std.specs.Prelude.{◌≡◌, ℕ, pos, true, false, List, [], ◌∷◌, map, Some, None, codes}
 use mathlib.Core.Path.{sym, ap, ◌∙◌}
 use Rattle.nf_core.specs.Expressions.{reads_within, reads_within_node, operators_of, operators_of_node}
 use Rattle.nf_core.specs.Kinds.{Number, Truth, Text, Any, kind_of_term, kind_of_node, kind_of_negated, kind_of_inverted, kind_of_binary}

@@ -1,5 +1,5 @@
 -- The value of an expression over one or two members. Undefined is no value.
-use Rattle.std.specs.Prelude.{ℕ, zero, suc, ◌+◌, nat_lt, ℤ, pos, negsuc, ◌+ℤ◌, ◌-ℤ◌, ◌*ℤ◌, neg_ℤ, int_lt, int_le, int_div, int_rem, Bool, true, not, ◌&&◌, ◌||◌, Option, Some, None, option_and_then, option_to_list, List, ◌∷◌, map, length, slice_index, slice_index_or, if◌then◌else◌}
+use Rattle.std.specs.Prelude.{ℕ, zero, suc, ◌+◌, nat_lt, ℤ, pos, negsuc, ◌+ℤ◌, ◌-ℤ◌, ◌*ℤ◌, neg_ℤ, int_lt, int_le, int_div, int_rem, Bool, true, not, ◌&&◌, ◌||◌, Option, Some, None, option_and_then, option_to_list, List, [], ◌∷◌, ◌++◌, map, length, slice_index, slice_index_or, if◌then◌else◌}
 use Rattle.std.specs.Ordering.{int_eq, is_eq}
 use Rattle.nf_core.specs.Texts.{int_least, int_greatest}
 use Rattle.nf_core.specs.Values.{value_cmp}
@@ -122,3 +122,19 @@ operators_of_node (node.Bin op a b) = a + b + 1
 -- how many operators an expression has, those with one operand and those with two
 unfoldable pub operators_of : term.Term → ℕ
 operators_of = fold-Term ℕ operators_of_node
+
+-- the texts of a node, given those of its operands
+unfoldable pub texts_at_node : node.Term-F (List (List ℕ)) → List (List ℕ)
+texts_at_node (node.Bool b) = []
+texts_at_node (node.Int n) = []
+texts_at_node (node.Text t) = t ∷ []
+texts_at_node (node.Start m) = []
+texts_at_node (node.Stop m) = []
+texts_at_node (node.Key m place) = []
+texts_at_node (node.Neg a) = a
+texts_at_node (node.Not a) = a
+texts_at_node (node.Bin op a b) = a ++ b
+
+-- the texts that stand in an expression
+unfoldable pub texts_of : term.Term → List (List ℕ)
+texts_of = fold-Term (List (List ℕ)) texts_at_node

@@ -61,10 +61,12 @@ impl Row {
         self.cells.len()
     }
 
-    /// The value of the cell at a place, counted from 0. None exactly where it is missing.
+    /// The value of the cell at a place, counted from 0. None exactly where it is missing. A text in
+    /// it is plain.
     pub fn get(&self, place: usize) -> Option<&Value>
         requires { place < length self.now }
-        ensures { option_copied result ≡ slice_index_or self.now place None }
+        ensures value { option_copied result ≡ slice_index_or self.now place None }
+        ensures plain { IsPlainCell (option_copied result) }
     {
         self.cells.as_slice()[place].as_ref()
     }

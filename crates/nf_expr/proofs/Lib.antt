@@ -1,3 +1,4 @@
 pub mod Equal
 pub mod OfKind
 pub mod Deep
+pub mod Plain

@@ -13,7 +13,7 @@ use Rattle.nf_expr.specs.declared.seen.Seen.{Seen}
 use Rattle.nf_expr.specs.Seen.{value_seen}
 
 -- a value that there is has this kind
-abbrev Gives : Option Value → Kind → Type 0
+abbrev pub Gives : Option Value → Kind → Type 0
 Gives o k = IfSome o (λ x. kind_of_value x ≡ k)
 
 -- a value that there is is of the kind that there is
@@ -39,7 +39,7 @@ unfolding of_bools
 bools_give f (v.Bool p) (v.Bool q) = refl
 bools_give f a b = tt
 
-binary_gives : (o : BinOp) (a b : Value) → Gives (binary o a b) (gives o)
+pub binary_gives : (o : BinOp) (a b : Value) → Gives (binary o a b) (gives o)
 unfolding binary
 binary_gives op.Or a b = bools_give _ a b
 binary_gives op.And a b = bools_give _ a b
@@ -55,12 +55,12 @@ binary_gives op.Mul a b = ints_give _ Number (λ m n. range_gives _) a b
 binary_gives op.Div a b = ints_give _ Number (λ m n. either _ None _ Number tt (range_gives _)) a b
 binary_gives op.Rem a b = ints_give _ Number (λ m n. either _ None _ Number tt (range_gives _)) a b
 
-negated_gives : (a : Value) → Gives (negated a) Number
+pub negated_gives : (a : Value) → Gives (negated a) Number
 unfolding negated
 negated_gives (v.Int n) = range_gives _
 negated_gives a = tt
 
-inverted_gives : (a : Value) → Gives (inverted a) Truth
+pub inverted_gives : (a : Value) → Gives (inverted a) Truth
 unfolding inverted
 inverted_gives (v.Bool b) = refl
 inverted_gives a = tt

@@ -1,9 +1,11 @@
 //! Expressions over one or two members.
 
-ghost use Rattle.std.specs.Prelude.{◌≡◌, ◌+◌, nat_lt, slice_index, option_map, option_and_then, slice_index_or, None, IfSome, IsTrue};
+ghost use Rattle.std.specs.Prelude.{◌≡◌, ◌+◌, nat_lt, slice_index, option_map, option_and_then, slice_index_or, None, IfSome, IsTrue, All};
 ghost use Rattle.std.specs.Option.{option_copied};
 ghost use Rattle.nf_core.specs.Expressions as spec;
 ghost use Rattle.nf_core.specs.Intervals.{Interval as IntervalOf};
+ghost use Rattle.nf_core.specs.Texts.{IsPlain};
+ghost use Rattle.nf_core.specs.Rows.{IsPlainCell};
 ghost use Rattle.nf_core.specs.Kinds.{Kind, kind_of_term, IsOfKind};
 ghost use Rattle.nf_expr.specs.Seen.{value_seen};
 
@@ -15,7 +17,8 @@ use std::sync::ledger::Ledger;
 /// The value of an expression over one or two members, as lent: member 0 is `first`, and member 1 is
 /// `second`. None exactly where the value is Undefined (`value_of` of nf_core's specs/Expressions).
 /// Where the expression has a kind, its value is of that kind (`kind_of_term` of nf_core's
-/// specs/Kinds).
+/// specs/Kinds). Where its texts are plain (`texts_of`, `IsPlain`), a text that is seen is plain, so
+/// that it may stand in a row.
 ///
 /// The expression must read no members but these, the second one only where it is given, and keys
 /// only at places, counted from 0, that the rows of these members have (`reads_within` of nf_core's
@@ -37,6 +40,7 @@ pub fn eval<'a, L: Ledger>(
 ) -> Option<Seen<'a>>
     requires { IsTrue (spec.reads_within (spec.widths_of first.now (option_copied second)) term.now) }
     ensures value { option_map value_seen result ≡ spec.value_of first.now (option_copied second.entry) term.now }
+    ensures plain { All IsPlain (spec.texts_of term.now) → IsPlainCell (option_map value_seen result) }
     ensures kind { (k : Kind) → kind_of_term term.now ≡ Some k → IfSome result (λ seen. IsOfKind k (value_seen seen)) }
     ensures steps { steps.new ≡ steps.old + 1 }
 {
@@ -45,14 +49,15 @@ pub fn eval<'a, L: Ledger>(
 }
 
 // The value of an expression, node by node.
-#[tactic(auto, unfolding(nf_core::specs::Expressions::value_of, nf_core::specs::Expressions::value_of_node, nf_core::specs::Expressions::reads_within, nf_core::specs::Expressions::reads_within_node))]
+#[tactic(auto, using(crate::proofs::Plain::negated_is_plain, crate::proofs::Plain::inverted_is_plain, crate::proofs::Plain::binary_is_plain, crate::proofs::Plain::first_is_plain), unfolding(nf_core::specs::Expressions::texts_of, nf_core::specs::Expressions::texts_at_node, nf_core::specs::Expressions::value_of, nf_core::specs::Expressions::value_of_node, nf_core::specs::Expressions::reads_within, nf_core::specs::Expressions::reads_within_node))]
 fn value_of<'a>(
     term: &'a Term,
     first: &'a Interval,
     second: Option<&'a Interval>,
 ) -> Option<Seen<'a>>
     requires { IsTrue (spec.reads_within (spec.widths_of first.now (option_copied second)) term.now) }
-    ensures { option_map value_seen result ≡ spec.value_of first.now (option_copied second.entry) term.now }
+    ensures value { option_map value_seen result ≡ spec.value_of first.now (option_copied second.entry) term.now }
+    ensures plain { All IsPlain (spec.texts_of term.now) → IsPlainCell (option_map value_seen result) }
 {
     match term {
         Term::Bool(b) => Some(Seen::Bool(*b)),
@@ -96,7 +101,8 @@ fn key<'a>(
     place: u32,
 ) -> Option<Seen<'a>>
     requires { IsTrue (nat_lt place (slice_index (spec.widths_of first.now (option_copied second)) number)) }
-    ensures { option_map value_seen result ≡ option_and_then (λ (i : IntervalOf). slice_index_or i.row place None) (spec.member first.now (option_copied second.entry) number) }
+    ensures value { option_map value_seen result ≡ option_and_then (λ (i : IntervalOf). slice_index_or i.row place None) (spec.member first.now (option_copied second.entry) number) }
+    ensures plain { IsPlainCell (option_map value_seen result) }
 {
     let value = member(first, second, number)?.row.get(place as usize)?;
     Some(Seen::of(value))

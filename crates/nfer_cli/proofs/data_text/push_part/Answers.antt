@@ -6,7 +6,7 @@ use Rattle.nfer_cli.proofs.data_text.push_part.Goals as goal
 pub loop-place-preserved : goal.loop-place-preserved
 loop-place-preserved c =
     cell_more c.args.part c.loop-place.is_first (keys_of c.args.plan.now c.args.name) c.args.row.now c.loop-place.place _ _ _ c.loop-place.text _ _
-    (omega arith) (omega arith) c.key.ensures c.get.ensures c.in_ok-is_first.ensures.text c.in_ok-is_first.ensures.first c.loop-place.invariant
+    (omega arith) (omega arith) c.key.ensures c.get.ensures.value c.in_ok-is_first.ensures.text c.in_ok-is_first.ensures.first c.loop-place.invariant
 
 pub returns : goal.returns
 returns c =
