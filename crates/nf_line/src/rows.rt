@@ -1,0 +1,38 @@
+//! The cells of a row.
+
+ghost use Rattle.std.specs.Prelude.{◌≡◌, IfOk, bytes_eq, reverse, option_map, false, IfSome};
+ghost use Rattle.std.specs.Option.{option_copied};
+ghost use Rattle.std.specs.Map.{lookup};
+ghost use Rattle.nf_core.specs.Rows.{IsPlainValue};
+ghost use Rattle.nf_text.specs.Value.{spelling_of};
+ghost use Rattle.nf_line.specs.Line.{value_of};
+
+
+use crate::pairs::Pairs;
+use nf_core::{NoMemory, Text, Value};
+use nf_text::{Read, read_value};
+use std::alloc::Global;
+
+/// The value of the last pair with a key, as it is written.
+pub(crate) fn last_value<'a>(pairs: Pairs<'a>, key: &str) -> Option<&'a str>
+    ensures { option_copied result ≡ lookup (bytes_eq key.now) (reverse pairs.entry) }
+{
+    let mut last = None;
+    for (written, value) in pairs {
+        if written == key {
+            last = Some(value);
+        }
+    }
+    last
+}
+
+/// The value that a text spells.
+pub(crate) fn value(alloc: Global, text: &str) -> Result<Value, NoMemory>
+    ensures value { IfOk result (λ value. value ≡ value_of (spelling_of text.now)) }
+{
+    match read_value(text) {
+        Read::Bool(truth) => Ok(Value::Bool(truth)),
+        Read::Int(number) => Ok(Value::Int(number)),
+        Read::Text(text) => Ok(Value::Text(Text::new(alloc, text)?)),
+    }
+}
