@@ -1,1 +1,3 @@
 mod WorkedLines
+pub mod Feeds
+pub mod Returns

@@ -1,6 +1,6 @@
 //! Pieces of bytes.
 
-ghost use Rattle.std.specs.Prelude.{◌≡◌, ◌==◌, position};
+ghost use Rattle.std.specs.Prelude.{◌≡◌, ◌==◌, false, position};
 ghost use Rattle.nf_line.specs.Lines.{without_return};
 ghost use Rattle.nf_line.specs.Cutting.{before_feed, has_feed};
 
@@ -15,6 +15,7 @@ pub(crate) struct Cut<'a> {
 pub(crate) fn cut_piece(piece: &[u8]) -> Cut<'_>
     ensures before { result.before.now ≡ before_feed piece.now }
     ensures has_feed { result.has_feed ≡ has_feed piece.now }
+    ensures whole { result.has_feed ≡ false → result.before.now ≡ piece.now }
 {
     match feed_place(piece) {
         Some(place) => Cut {
