@@ -22,6 +22,7 @@ pub(crate) struct Fields<'a> {
 }
 
 /// The line as text: it is UTF-8 and holds no CR.
+#[tactic(auto, using(crate::proofs::Stages::text_tested, crate::proofs::Stages::no_text_tested))]
 pub(crate) fn read_text(line: &[u8]) -> Result<&str, LineFault>
     ensures test { Tests LineFault.NotText (not (is_text line.now)) result }
     ensures text { IfOk result (λ text. text.now ≡ line.now) }
@@ -64,21 +65,19 @@ pub(crate) fn read_fields(text: &str) -> Result<Fields<'_>, LineFault>
 }
 
 /// The time of a line.
+#[tactic(auto, using(crate::proofs::Stages::time_tested, crate::proofs::Stages::time_read))]
 pub(crate) fn read_line_time(text: &str) -> Result<i64, LineFault>
     ensures test { Tests LineFault.Time (not (is_time text.now)) result }
     ensures time { IfOk result (λ time. time ≡ pos (digits_value 10 text.now)) }
 {
-    match read_time(text) {
-        Some(time) => Ok(time),
-        None => Err(LineFault::Time),
-    }
+    read_time(text).ok_or(LineFault::Time)
 }
 
 /// Tests that no key is empty.
 pub(crate) fn test_keys(keys: &str) -> Result<(), LineFault>
     ensures { Tests LineFault.Key (list_any is_empty (keys_in keys.now)) result }
 {
-    if !keys.is_empty() && split(keys, b';').any(|key| key.is_empty()) {
+    if !keys.is_empty() && has_empty_part(keys) {
         return Err(LineFault::Key);
     }
     Ok(())
@@ -88,12 +87,34 @@ pub(crate) fn test_keys(keys: &str) -> Result<(), LineFault>
 pub(crate) fn test_counts(keys: &str, values: &str) -> Result<(), LineFault>
     ensures { Tests LineFault.Counts (not (length (values_in keys.now values.now) == length (keys_in keys.now))) result }
 {
-    let same = if keys.is_empty() {
-        values.is_empty()
+    if are_as_many(keys, values) {
+        Ok(())
     } else {
-        count_marks(values.as_bytes()) == count_marks(keys.as_bytes())
-    };
-    if same { Ok(()) } else { Err(LineFault::Counts) }
+        Err(LineFault::Counts)
+    }
+}
+
+/// Whether one of the parts of a text between `;` is empty.
+fn has_empty_part(text: &str) -> bool
+    ensures { result ≡ list_any is_empty (fields_of 59 text.now) }
+{
+    for part in split(text, b';') {
+        if part.is_empty() {
+            return true;
+        }
+    }
+    false
+}
+
+/// Whether there are as many values as keys.
+#[tactic(auto, using(crate::proofs::Stages::no_keys, crate::proofs::Stages::some_keys))]
+fn are_as_many(keys: &str, values: &str) -> bool
+    ensures { result ≡ (length (values_in keys.now values.now) == length (keys_in keys.now)) }
+{
+    if keys.is_empty() {
+        return values.is_empty();
+    }
+    count_marks(values.as_bytes()) == count_marks(keys.as_bytes())
 }
 
 /// How many of the bytes are `;`.
