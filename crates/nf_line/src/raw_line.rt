@@ -48,6 +48,7 @@ impl<'a> RawLine<'a> {
     /// was dropped before. The answer is the accepted line, or the first fault of the table
     /// (`line_within` of specs/Line). Keys and values are parts of the line, in its order. Takes no
     /// memory.
+    #[tactic(auto, using(crate::proofs::ReadLines::not_text_read, crate::proofs::ReadLines::fields_read, crate::proofs::ReadLines::time_read, crate::proofs::ReadLines::key_read, crate::proofs::ReadLines::counts_read, crate::proofs::ReadLines::accepted_read, crate::proofs::PlainTexts::values_unmarked))]
     pub fn read(line: &'a [u8]) -> Result<RawLine<'a>, LineFault>
         requires some { line.now ≢ [] }
         requires within { length line.now ≤ line_limit }
@@ -108,7 +109,7 @@ impl<'a> RawLine<'a> {
         ensures cell { IfOk result (λ cell. cell ≡ lookup (bytes_eq key.now) (reverse (map spelled self.now.texts))) }
         ensures plain { IfOk result IsPlainCell }
     {
-        match last_value(self.pairs(), key) {
+        match last_value(Pairs::of(self.keys, self.values), key) {
             Some(text) => Ok(Some(value(alloc, text)?)),
             None => Ok(None),
         }

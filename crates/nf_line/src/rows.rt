@@ -14,12 +14,13 @@ use nf_text::{Read, read_value};
 use std::alloc::Global;
 
 /// The value of the last pair with a key, as it is written.
+#[tactic(auto, using(crate::proofs::LastPairs::last_looked_up))]
 pub(crate) fn last_value<'a>(pairs: Pairs<'a>, key: &str) -> Option<&'a str>
     ensures { option_copied result ≡ lookup (bytes_eq key.now) (reverse pairs.entry) }
 {
     let mut last = None;
     for (written, value) in pairs {
-        if written == key {
+        if key == written {
             last = Some(value);
         }
     }
