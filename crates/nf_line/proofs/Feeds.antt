@@ -1,7 +1,7 @@
 -- The first LF of a piece.
-use Rattle.std.proofs.Common.{◌≡◌, ℕ, zero, suc, ◌<◌, ◌≤◌, Bool, true, false, cond, List, [], ◌∷◌, length, get_or, take, refl, arith, Some, None, sym}
+use Rattle.std.proofs.Common.{◌≡◌, ℕ, zero, suc, ◌<◌, ◌≤◌, Bool, true, false, cond, List, [], ◌∷◌, length, get_or, take, refl, arith, Some, None, sym, ◌∙◌, ⊎_elim}
 use Rattle.std.specs.List.{list_any, position, position_or_len, before_first}
-use Rattle.std.proofs.lemmas.Bool.{or_left, or_right, ltb-false}
+use Rattle.std.proofs.lemmas.Bool.{or_left, or_right, ltb-false, cases_lt, false≢true}
 use Rattle.std.proofs.lemmas.List.Folds.{list_any_none}
 use Rattle.std.proofs.lemmas.List.Quantifiers.{position-Some}
 use Rattle.std.proofs.lemmas.List.Sums.{fails_before_first}
@@ -33,3 +33,9 @@ module _ {X : Type 0} (p : X → Bool) where
   none_before xs = list_any_none p (before_first p xs) (λ k d h.
       let below : k < position_or_len p xs = omega (arith, length-take (position_or_len p xs) xs) in
       rw (get_or-take (position_or_len p xs) xs k d below) (fails_before_first p xs k d below))
+
+  -- where an element passes, there is a first one
+  pub place_found : (xs : List X) → list_any p xs ≡ true → position_or_len p xs < length xs
+  place_found xs h = ⊎_elim (λ below. below)
+      (λ past. absurd (false≢true (sym (list_any_none p xs (λ k d below. fails_before_first p xs k d (omega arith))) ∙ h)))
+      (cases_lt (position_or_len p xs) (length xs))

@@ -16,7 +16,7 @@ use crate::fields::{read_fields, read_line_time, read_text, test_counts, test_ke
 use crate::pairs::Pairs;
 use crate::rows::{last_value, value};
 use nf_core::{NoMemory, Plan, Row, Value};
-use nf_text::read_time;
+use nf_text::plain_texts;
 use std::alloc::Global;
 use std::marker::Model;
 
@@ -109,6 +109,7 @@ impl<'a> RawLine<'a> {
         ensures cell { IfOk result (λ cell. cell ≡ lookup (bytes_eq key.now) (reverse (map spelled self.now.texts))) }
         ensures plain { IfOk result IsPlainCell }
     {
+        plain_texts();
         match last_value(Pairs::of(self.keys, self.values), key) {
             Some(text) => Ok(Some(value(alloc, text)?)),
             None => Ok(None),

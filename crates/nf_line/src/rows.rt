@@ -1,9 +1,10 @@
 //! The cells of a row.
 
-ghost use Rattle.std.specs.Prelude.{◌≡◌, IfOk, bytes_eq, reverse, option_map, false, IfSome};
+ghost use Rattle.std.specs.Prelude.{◌≡◌, IfOk, All, bytes_eq, reverse};
 ghost use Rattle.std.specs.Option.{option_copied};
 ghost use Rattle.std.specs.Map.{lookup};
 ghost use Rattle.nf_core.specs.Rows.{IsPlainValue};
+ghost use Rattle.nf_core.specs.Texts.{IsPlainByte};
 ghost use Rattle.nf_text.specs.Value.{spelling_of};
 ghost use Rattle.nf_line.specs.Line.{value_of};
 
@@ -27,8 +28,10 @@ pub(crate) fn last_value<'a>(pairs: Pairs<'a>, key: &str) -> Option<&'a str>
     last
 }
 
-/// The value that a text spells.
+/// The value that a text spells. It is plain, since no byte of the text is `|`, `;`, CR or LF.
 pub(crate) fn value(alloc: Global, text: &str) -> Result<Value, NoMemory>
+    requires { All IsPlainByte text.now }
+    ensures plain { IfOk result IsPlainValue }
     ensures value { IfOk result (λ value. value ≡ value_of (spelling_of text.now)) }
 {
     match read_value(text) {
