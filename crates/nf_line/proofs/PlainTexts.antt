@@ -1,5 +1,5 @@
 -- The values of a line hold no separators.
-use Rattle.std.proofs.Common.{◌≡◌, ℕ, zero, suc, get_or, Bool, true, false, cond, not, ◌&&◌, ◌||◌, eqb, List, [], ◌∷◌, reverse, refl, sym, ap, ◌∙◌, Option, None, bytes_eq}
+use Rattle.std.proofs.Common.{◌≡◌, ℕ, zero, suc, get_or, Bool, true, false, cond, not, ◌&&◌, ◌||◌, eqb, List, [], ◌∷◌, reverse, refl, sym, ap, ◌∙◌, Option, Some, None, bytes_eq}
 use Rattle.std.specs.List.{list_all, list_any, slice_split, onto_first, zip}
 use Rattle.std.specs.Map.{lookup}
 use Rattle.std.specs.Option.{IfSome}
@@ -84,3 +84,6 @@ pub found_bare : (key keys values : List ℕ) → holds_mark values ≡ false �
 found_bare key keys values h =
     rw (← last_looked_up key (texts_in keys values))
     (last_holds key is_bare (texts_in keys values) None (zip_bare (keys_in keys) (values_in keys values) (values_bare keys values h)) (record {}))
+
+pub found_without_separators : (key keys values text : List ℕ) → holds_mark values ≡ false → lookup (bytes_eq key) (reverse (texts_in keys values)) ≡ Some text → list_any is_separator text ≡ false
+found_without_separators key keys values text h e = not-true _ (rw e at (found_bare key keys values h))

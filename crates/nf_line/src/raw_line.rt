@@ -105,6 +105,7 @@ impl<'a> RawLine<'a> {
     }
 
     // The cell of a key.
+    #[tactic(auto, using(crate::proofs::Cells::cell_of))]
     fn cell(&self, alloc: Global, key: &str) -> Result<Option<Value>, NoMemory>
         ensures cell { IfOk result (λ cell. cell ≡ lookup (bytes_eq key.now) (reverse (map spelled self.now.texts))) }
         ensures plain { IfOk result IsPlainCell }

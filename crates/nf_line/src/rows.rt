@@ -11,7 +11,7 @@ ghost use Rattle.nf_line.specs.Line.{value_of};
 
 use crate::pairs::Pairs;
 use nf_core::{NoMemory, Text, Value};
-use nf_text::{Read, read_value};
+use nf_text::{Read, read_value, spellings_are_apart};
 use std::alloc::Global;
 
 /// The value of the last pair with a key, as it is written.
@@ -34,6 +34,7 @@ pub(crate) fn value(alloc: Global, text: &str) -> Result<Value, NoMemory>
     ensures plain { IfOk result IsPlainValue }
     ensures value { IfOk result (λ value. value ≡ value_of (spelling_of text.now)) }
 {
+    spellings_are_apart();
     match read_value(text) {
         Read::Bool(truth) => Ok(Value::Bool(truth)),
         Read::Int(number) => Ok(Value::Int(number)),
