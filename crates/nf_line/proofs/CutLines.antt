@@ -1,19 +1,19 @@
 -- The lines that are handed out are those of the cut.
-use Rattle.std.proofs.Common.{◌≡◌, ℕ, zero, suc, ◌+◌, ◌-◌, ◌<◌, ◌≤◌, Bool, true, false, cond, not, ◌||◌, eqb, ltb, List, [], ◌∷◌, ◌++◌, length, map, take, drop, get_or, refl, sym, ap, ◌∙◌, subst, arith, rules, ⊎_elim, append_assoc, length-append, option_to_list, Some, None}
-use Rattle.std.specs.List.{All, list_any, before_first, after_first, position_or_len, fold}
-use Rattle.std.proofs.lemmas.Bool.{or_parts, or_from, ltb-true, ltb-false, le-ltb, eqb-true, ne_eqb, or_cases, cases_Bool, cond_both, true≢false}
+use Rattle.std.proofs.Common.{◌≡◌, ℕ, zero, suc, ◌+◌, ◌<◌, ◌≤◌, Bool, true, false, cond, eqb, ltb, List, [], ◌∷◌, ◌++◌, length, map, take, drop, get_or, refl, sym, ap, ◌∙◌, subst, arith, ⊎_elim, append_assoc, length-append, option_to_list}
+use Rattle.std.specs.List.{All, after_first, position_or_len, fold}
+use Rattle.std.proofs.lemmas.Bool.{or_parts, or_from, ltb-true, ltb-false, lt-ltb, le-ltb, eqb-true, ne_eqb, or_cases, cases_Bool, cond_both, true≢false}
 use Rattle.std.proofs.lemmas.List.{append-nil, map-append, take-append-drop}
 use Rattle.std.proofs.Math.Seq.{take-length, take-append-add}
 use Rattle.std.proofs.lemmas.List.Elements.{All-push, All-nil}
 use Rattle.std.proofs.lemmas.List.Folds.{list_any-append}
 use Rattle.std.proofs.lemmas.List.Sums.{split_at_first, passes_at_first}
 use Rattle.std.proofs.lemmas.List.Splits.{slice_split_at, slice_split_none}
-use Rattle.nf_text.specs.Fields.{fields_of}
 use Rattle.nf_line.specs.Lines.{cut, cut_off, line_limit, without_return, with_long_last}
-use Rattle.nf_line.specs.Line.{line, line_within, Line, is_empty}
+use Rattle.nf_line.specs.Line.{line, line_within, Faulty, Long}
 use Rattle.nf_line.specs.Cutting.{Content, Run, start, after_call, after_long, has_feed, before_feed, is_long, used_of, line_of, content_after, last_line, HasCut, IsLongBehind}
 use Rattle.nf_line.proofs.Feeds.{none_before, place_found}
-use Rattle.nf_line.proofs.Cuts.{parts_of, with_some_last, last_piece, cut_is, some_last-append, long_last-append, goes_on, kept_no_feed, first_part, HasFirst}
+use Rattle.nf_line.proofs.Returns.{one_shorter}
+use Rattle.nf_line.proofs.Cuts.{parts_of, with_some_last, last_piece, cut_is, some_last-append, long_last-append, goes_on, kept_no_feed, first_part}
 
 -- before the first call
 pub at_start : HasCut [] [] []
@@ -127,6 +127,14 @@ lines_of_cut bytes lines kept so_far =
 pub meaning_within : (piece : List ℕ) → length piece ≤ line_limit → line piece ≡ line_within (without_return piece)
 unfolding line line_within
 meaning_within piece h = let e = le-ltb line_limit (length piece) h in rw e refl
+
+-- a piece beyond the limit is too long
+pub meaning_beyond : (piece : List ℕ) → line_limit < length piece → line piece ≡ Faulty Long
+unfolding line
+meaning_beyond piece h =
+    let e = lt-ltb line_limit (length piece) h in
+    let some = ne_eqb (length (without_return piece)) 0 (λ z. absurd (omega (arith, one_shorter piece))) in
+    rw (some, e) refl
 
 meanings_within : (pieces : List (List ℕ)) → All (λ piece. length piece ≤ line_limit) pieces → map line pieces ≡ map line_within (map without_return pieces)
 meanings_within [] h = refl

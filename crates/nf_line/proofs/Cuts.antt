@@ -1,8 +1,7 @@
 -- Bytes between their LF bytes, and the cut of them.
-use Rattle.std.proofs.Common.{◌≡◌, ◌≢◌, ℕ, zero, suc, ◌+◌, ◌<◌, ◌≤◌, Bool, true, false, cond, not, eqb, ltb, List, [], ◌∷◌, ◌++◌, length, take, drop, get_or, refl, sym, ap, ◌∙◌, arith, ⊎_elim}
-use Rattle.std.specs.List.{list_any, list_all, slice_split, onto_first}
+use Rattle.std.proofs.Common.{◌≡◌, ◌≢◌, ℕ, ◌≤◌, Bool, true, false, cond, not, eqb, List, [], ◌∷◌, ◌++◌, length, refl, sym, ap, ◌∙◌, arith, ⊎_elim}
+use Rattle.std.specs.List.{list_any, list_all, onto_first}
 use Rattle.std.proofs.lemmas.Bool.{or_parts, and_parts, ne_eqb, le-ltb, not-true, cases_Bool}
-use Rattle.std.proofs.lemmas.List.{append-nil}
 use Rattle.nf_text.specs.Fields.{fields_of}
 use Rattle.nf_line.specs.Lines.{cut, line_limit, with_long_last}
 use Rattle.nf_line.specs.Cutting.{has_feed}

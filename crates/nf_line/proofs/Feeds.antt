@@ -1,5 +1,5 @@
 -- The first LF of a piece.
-use Rattle.std.proofs.Common.{◌≡◌, ℕ, zero, suc, ◌<◌, ◌≤◌, Bool, true, false, cond, List, [], ◌∷◌, length, get_or, take, refl, arith, Some, None, sym, ◌∙◌, ⊎_elim}
+use Rattle.std.proofs.Common.{◌≡◌, ℕ, zero, suc, ◌<◌, ◌≤◌, Bool, true, false, cond, List, [], ◌∷◌, length, get_or, refl, arith, Some, None, sym, ◌∙◌, ⊎_elim}
 use Rattle.std.specs.List.{list_any, position, position_or_len, before_first}
 use Rattle.std.proofs.lemmas.Bool.{or_left, or_right, ltb-false, cases_lt, false≢true}
 use Rattle.std.proofs.lemmas.List.Folds.{list_any_none}

@@ -1,5 +1,5 @@
 -- The values of a line hold no separators.
-use Rattle.std.proofs.Common.{◌≡◌, ℕ, zero, suc, get_or, Bool, true, false, cond, not, ◌&&◌, ◌||◌, eqb, List, [], ◌∷◌, reverse, refl, sym, ap, ◌∙◌, Option, Some, None, bytes_eq}
+use Rattle.std.proofs.Common.{◌≡◌, ℕ, zero, suc, get_or, Bool, true, false, cond, not, ◌&&◌, ◌||◌, eqb, List, [], ◌∷◌, reverse, refl, Some, None, bytes_eq}
 use Rattle.std.specs.List.{list_all, list_any, slice_split, onto_first, zip}
 use Rattle.std.specs.Map.{lookup}
 use Rattle.std.specs.Option.{IfSome}
@@ -10,7 +10,7 @@ use Rattle.nf_text.specs.Value.{is_separator}
 use Rattle.nf_line.specs.Line.{is_empty, is_text, values_field, keys_in, values_in, texts_in}
 use Rattle.nf_line.specs.Cutting.{has_feed}
 use Rattle.nf_line.specs.Plain.{holds_mark}
-use Rattle.nf_line.proofs.LastPairs.{last_from, last_looked_up, last_holds}
+use Rattle.nf_line.proofs.LastPairs.{last_looked_up, last_holds}
 
 -- a text without separators
 abbrev pub is_bare : List ℕ → Bool

@@ -1,18 +1,17 @@
 -- The tests of a line's fields.
-use Rattle.std.proofs.Common.{◌≡◌, ℕ, ◌+◌, Bool, true, false, cond, not, ◌&&◌, List, [], length, refl, ap, sym, ◌∙◌, eqb, ltb, arith, rules, ℤ, pos, Option, Some, None, Ok, Err, ⊎_elim}
+use Rattle.std.proofs.Common.{◌≡◌, ℕ, ◌+◌, Bool, true, false, cond, not, List, [], length, refl, sym, ◌∙◌, eqb, arith, ℤ, pos, Some, None, ⊎_elim}
 use Rattle.std.specs.List.{list_any, count_by}
 use Rattle.std.specs.Option.{ok_or}
 use Rattle.std.specs.Result.{IfOk}
 use Rattle.std.specs.Str.{IsUtf8, is_utf8}
 use Rattle.std.specs.Str.Parse.{digits_value}
 use Rattle.std.proofs.lemmas.Str.{IsUtf8-from_is_utf8, is_utf8-from_IsUtf8}
-use Rattle.std.proofs.lemmas.Bool.{and_from, and_left, not_from_false, not_from_true, false_from_ne_true, cond-true, cond-false, cases_eq, eq-eqb, ne_eqb}
+use Rattle.std.proofs.lemmas.Bool.{and_from, and_left, not_from_false, false_from_ne_true, cases_eq, eq-eqb, ne_eqb}
 use Rattle.std.proofs.lemmas.List.Splits.{length-slice_split}
 use Rattle.nf_text.specs.Time.{is_time, time_of}
 use Rattle.nf_text.specs.Fields.{fields_of}
 use Rattle.nf_line.specs.Line.{is_text, keys_in, values_in}
 use Rattle.nf_line.specs.Stages.{Tests}
-use Rattle.nf_line.specs.declared.faults.LineFault.{LineFault}
 use Rattle.nf_line.specs.declared.faults.LineFault.TheVariants as fault
 
 -- UTF-8 without CR is text

@@ -1,5 +1,5 @@
 -- Worked lines and traces, computed by the definitions. What is expected was worked out by hand from the table.
-use Rattle.std.proofs.Common.{◌≡◌, ℕ, List, [], ◌∷◌, ◌++◌, map, refl, pos, negsuc, Some, None, true, false, codes}
+use Rattle.std.proofs.Common.{◌≡◌, [], ◌∷◌, map, refl, pos, negsuc, Some, None, true, codes}
 use Rattle.std.specs.Str.{is_utf8, chars}
 use lib.Utf8.{encode}
 use Rattle.nf_core.specs.declared.values.Value.TheVariants.{Bool, Int, Text}

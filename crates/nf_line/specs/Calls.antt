@@ -1,7 +1,7 @@
 -- What a call of `next_line` answers and leaves.
-use Rattle.std.specs.Prelude.{◌≡◌, ℕ, Bool, true, false, List, Option, Result, Ok, Err}
+use Rattle.std.specs.Prelude.{◌≡◌, ℕ, List, Result, Ok, Err}
 use Rattle.std.specs.Option.{option_copied}
-use Rattle.nf_line.specs.Cutting.{Content, after_long, is_long, used_of, line_of, content_after}
+use Rattle.nf_line.specs.Cutting.{Content, after_long, used_of, line_of, content_after}
 use Rattle.nf_line.specs.declared.taken.Taken.{Taken}
 use Rattle.nf_line.specs.declared.faults.CutFault.{CutFault}
 use Rattle.nf_line.specs.declared.faults.CutFault.TheVariants as fault

@@ -1,5 +1,5 @@
 -- Cutting bytes that come in pieces: what is kept between two pieces, and what one piece gives.
-use Rattle.std.specs.Prelude.{◌≡◌, ℕ, suc, ◌+◌, ◌≤◌, ◌<◌, ◌==◌, nat_lt, Bool, true, false, ◌||◌, List, [], ◌∷◌, ◌++◌, length, map, take, All, Option, Some, None, option_to_list, if◌then◌else◌}
+use Rattle.std.specs.Prelude.{◌≡◌, ℕ, ◌+◌, ◌≤◌, ◌<◌, ◌==◌, nat_lt, Bool, true, false, ◌||◌, List, [], ◌∷◌, ◌++◌, length, map, take, All, Option, Some, None, option_to_list, if◌then◌else◌}
 use Rattle.std.specs.List.{list_any, before_first}
 use Rattle.nf_text.specs.Fields.{fields_of}
 use Rattle.nf_line.specs.Lines.{line_limit, without_return}
@@ -22,6 +22,11 @@ pub record IsContent (content : Content) : Type 0 where
   pub within : length content.kept ≤ line_limit
   pub no_feed : list_any (λ byte. byte == 10) content.kept ≡ false
   pub none_after_long : content.was_long ≡ true → content.kept ≡ []
+
+-- a line that can be read: it has at most 65,536 bytes, and no LF is among them
+pub record CanBeRead (line : List ℕ) : Type 0 where
+  pub within : length line ≤ line_limit
+  pub no_feed : list_any (λ byte. byte == 10) line ≡ false
 
 -- whether an LF stands in a piece
 abbrev pub has_feed : List ℕ → Bool

@@ -1,5 +1,5 @@
 -- What the answers of the readers stand for.
-use Rattle.std.specs.Prelude.{◌≡◌, ℕ, ◌++◌, List, map, Option, Result, Ok, Err}
+use Rattle.std.specs.Prelude.{map, Result, Ok, Err}
 use Rattle.nf_line.specs.Line.{Line, Accepted, Faulty, Fault, Long, NotText, Fields, Time, Key, Counts, spelled}
 use Rattle.nf_line.specs.Raw.{Raw}
 use Rattle.nf_line.specs.Trace.{Ending, Refused, TooLong, InNoForm, Falls}

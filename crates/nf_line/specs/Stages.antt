@@ -1,5 +1,5 @@
 -- The tests of a line, one after the other.
-use Rattle.std.specs.Prelude.{◌≡◌, ℕ, Bool, true, false, Result, Ok, Err}
+use Rattle.std.specs.Prelude.{◌≡◌, Bool, true, false, Result, Ok, Err}
 use Rattle.nf_line.specs.declared.faults.LineFault.{LineFault}
 
 -- a test of a fault: the answer is that fault exactly where the line has it

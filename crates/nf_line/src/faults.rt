@@ -1,6 +1,5 @@
 //! Why a line or a trace is refused.
 
-use nf_core::NoMemory;
 use thiserror::Error;
 
 /// Why a line is refused by its bytes: the first fault of the table, which is `faults_within` of
@@ -51,15 +50,4 @@ pub enum CutFault {
     /// No memory was left to keep the piece.
     #[error("no memory")]
     NoMemory,
-}
-
-impl From<NoMemory> for CutFault {
-    ghost use Rattle.std.specs.Prelude.{◌≡◌};
-    ghost use Rattle.nf_line.specs.declared.faults.CutFault.TheVariants as variant;
-
-    ghost from_gives = { λ _ fault. fault ≡ variant.NoMemory };
-
-    fn from(_error: NoMemory) -> CutFault {
-        CutFault::NoMemory
-    }
 }

@@ -1,8 +1,8 @@
 //! What holds of the definitions themselves. Each function does nothing, and its contract is the law.
 
-ghost use Rattle.std.specs.Prelude.{◌≡◌, ℕ, ◌≤◌, false, true, List, [], ◌++◌, length, map, take, fold, option_to_list};
+ghost use Rattle.std.specs.Prelude.{◌≡◌, ℕ, ◌<◌, ◌≤◌, false, true, List, [], ◌++◌, length, map, take, fold, option_to_list};
 ghost use Rattle.nf_line.specs.Lines.{cut, cut_off, line_limit, without_return, with_long_last};
-ghost use Rattle.nf_line.specs.Line.{line, line_within};
+ghost use Rattle.nf_line.specs.Line.{line, line_within, Faulty, Long};
 ghost use Rattle.nf_line.specs.Cutting.{Content, Run, start, after_call, is_long, used_of, line_of, content_after, last_line, HasCut, IsLongBehind};
 
 /// Whatever the pieces are, the lines that are handed out are those of the cut of all bytes that
@@ -19,8 +19,10 @@ pub fn lines_are_those_of_the_cut()
 {}
 
 /// A line that is handed out has the meaning of its whole piece in the cut, and so has the last one.
+/// A piece that is longer than a line may be is `Long`.
 pub fn lines_mean_their_pieces()
     ensures within { (piece : List ℕ) → length piece ≤ line_limit → line piece ≡ line_within (without_return piece) }
+    ensures long { (piece : List ℕ) → line_limit < length piece → line piece ≡ Faulty Long }
     ensures all { (bytes : List ℕ) (lines : List (List ℕ)) (kept : List ℕ) → HasCut bytes lines kept → length kept ≤ line_limit → map line (cut bytes) ≡ map line_within (lines ++ option_to_list (last_line kept)) }
     ensures broken_off { (bytes : List ℕ) (lines : List (List ℕ)) (kept : List ℕ) → HasCut bytes lines kept → length kept ≤ line_limit → map line (cut_off bytes) ≡ map line_within lines }
 {}

@@ -1,11 +1,11 @@
 //! Cutting bytes that come in pieces into lines.
 
-ghost use Rattle.std.specs.Prelude.{◌≡◌, ◌↔◌, [], ◌++◌, length, false, IsTrue, IfOk, IfErr, OnOk};
+ghost use Rattle.std.specs.Prelude.{◌≡◌, ◌↔◌, [], ◌++◌, length, false, IsTrue, IfOk, IfErr, IfSome, OnOk};
 ghost use Rattle.std.specs.Option.{option_copied};
 ghost use Rattle.std.specs.Borrow.{sem};
 ghost use Rattle.std.specs.Io.BufRead.{Rests};
 ghost use Rattle.nf_line.specs.Lines.{without_return};
-ghost use Rattle.nf_line.specs.Cutting.{nothing_kept, has_feed, goes_beyond, is_long, last_line};
+ghost use Rattle.nf_line.specs.Cutting.{nothing_kept, has_feed, goes_beyond, is_long, last_line, CanBeRead, IsContent};
 ghost use Rattle.nf_line.specs.Calls.{Takes, content_left};
 ghost use Rattle.nf_line.specs.contracts.liner.Liner.{the_row};
 
@@ -60,6 +60,8 @@ impl Liner {
     pub fn next_line<'a>(&'a mut self, piece: &'a [u8]) -> Result<Taken<'a>, CutFault>
         ensures long { (result ≡ Err CutFault.Long) ↔ IsTrue (is_long self.old piece.now) }
         ensures taken { IfOk result (Takes self.old piece.now) }
+        ensures line { IfOk result (λ taken. IfSome taken.line (λ line. CanBeRead line.now)) }
+        ensures valid { IsContent self.old }
         ensures* after { sem 𝓛 (Rests the_row self.entry (λ after. after ≡ content_left self.old piece.now result)) }
     {
         let cut = cut_piece(piece);
@@ -79,7 +81,9 @@ impl Liner {
     /// Hands out the kept bytes without one CR at their end, and keeps nothing. None exactly where
     /// nothing was kept. Takes no memory.
     pub fn last(&mut self) -> Option<&[u8]>
-        ensures line { option_copied result ≡ last_line self.old.kept }
+        ensures last { option_copied result ≡ last_line self.old.kept }
+        ensures line { IfSome result (λ line. CanBeRead line.now) }
+        ensures valid { IsContent self.old }
         ensures* after { sem 𝓛 (Rests the_row self.entry (λ after. after ≡ record self.old { kept = [] })) }
     {
         if self.kept.is_empty() {
@@ -94,6 +98,7 @@ impl Liner {
         ensures long { (result ≡ Err CutFault.Long) ↔ IsTrue (goes_beyond self.old (length bytes.now)) }
         ensures ok { OnOk result (self.new ≡ record self.old { kept = self.old.kept ++ bytes.now }) }
         ensures err { IfErr result (λ fault. self.new ≡ content_left self.old [] (Err fault)) }
+        ensures valid { IsContent self.old }
     {
         if self.was_long || self.kept.len() + bytes.len() > LONGEST {
             self.kept.clear();
@@ -107,8 +112,10 @@ impl Liner {
     }
 
     // Hands out the kept bytes without one CR at their end.
+    #[tactic(auto, using(crate::proofs::Returns::can_be_read))]
     fn hand_out(&mut self) -> &[u8]
-        ensures line { result.now ≡ without_return self.old.kept }
+        ensures kept { result.now ≡ without_return self.old.kept }
+        ensures line { CanBeRead result.now }
         ensures* after { sem 𝓛 (Rests the_row self.entry (λ after. after ≡ record self.old { kept = [] })) }
     {
         std::mem::swap(&mut self.kept, &mut self.handed_out);

@@ -1,13 +1,12 @@
 //! Reading one line.
 
-ghost use Rattle.std.specs.Prelude.{◌≡◌, ◌≢◌, ◌<◌, ◌≤◌, [], false, length, map, reverse, bytes_eq, All, IfOk};
+ghost use Rattle.std.specs.Prelude.{◌≡◌, ◌≢◌, ◌<◌, [], length, map, reverse, bytes_eq, All, IfOk};
 ghost use Rattle.std.specs.Map.{lookup};
 ghost use Rattle.nf_core.specs.Plan.{keys_of};
 ghost use Rattle.nf_core.specs.Rows.{IsPlainCell};
 ghost use Rattle.nf_text.specs.Fields.{fields_of};
-ghost use Rattle.nf_line.specs.Lines.{line_limit};
 ghost use Rattle.nf_line.specs.Line.{line_within, texts_in, keys_field, values_field, spelled};
-ghost use Rattle.nf_line.specs.Cutting.{has_feed};
+ghost use Rattle.nf_line.specs.Cutting.{CanBeRead};
 ghost use Rattle.nf_line.specs.Rows.{row_of};
 ghost use Rattle.nf_line.specs.Readings.{line_read};
 
@@ -51,8 +50,7 @@ impl<'a> RawLine<'a> {
     #[tactic(auto, using(crate::proofs::ReadLines::not_text_read, crate::proofs::ReadLines::fields_read, crate::proofs::ReadLines::time_read, crate::proofs::ReadLines::key_read, crate::proofs::ReadLines::counts_read, crate::proofs::ReadLines::accepted_read, crate::proofs::PlainTexts::values_unmarked))]
     pub fn read(line: &'a [u8]) -> Result<RawLine<'a>, LineFault>
         requires some { line.now ≢ [] }
-        requires within { length line.now ≤ line_limit }
-        requires no_feed { has_feed line.now ≡ false }
+        requires can_be_read { CanBeRead line.now }
         ensures line { line_read result ≡ line_within line.now }
         ensures parts { IfOk result (λ raw. raw.texts ≡ texts_in (keys_field (fields_of 124 line.now)) (values_field (fields_of 124 line.now))) }
     {
