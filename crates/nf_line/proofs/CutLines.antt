@@ -78,14 +78,14 @@ next_call bytes lines content piece so_far short =
     let fits = ltb-false _ _ sides.1 in
     ⊎_elim
     (λ h.
-        let ended = ended_piece bytes lines content.kept (before_feed piece) so_far (none_before (λ byte. eqb byte 10) piece) fits in
-        let used = subst (λ taken. HasCut (bytes ++ taken) (lines ++ without_return (content.kept ++ before_feed piece) ∷ []) []) (sym (up_to_feed piece h)) ended in
-        rw h used)
+    let ended = ended_piece bytes lines content.kept (before_feed piece) so_far (none_before (λ byte. eqb byte 10) piece) fits in
+    let used = subst (λ taken. HasCut (bytes ++ taken) (lines ++ without_return (content.kept ++ before_feed piece) ∷ []) []) (sym (up_to_feed piece h)) ended in
+    rw h used)
     (λ h.
-        let whole = whole_piece bytes lines content.kept piece so_far h in
-        let used = subst (λ taken. HasCut (bytes ++ taken) lines (content.kept ++ piece)) (sym (take-length piece)) whole in
-        let handed = subst (λ given. HasCut (bytes ++ take (length piece) piece) given (content.kept ++ piece)) (sym (append-nil lines)) used in
-        rw h handed)
+    let whole = whole_piece bytes lines content.kept piece so_far h in
+    let used = subst (λ taken. HasCut (bytes ++ taken) lines (content.kept ++ piece)) (sym (take-length piece)) whole in
+    let handed = subst (λ given. HasCut (bytes ++ take (length piece) piece) given (content.kept ++ piece)) (sym (append-nil lines)) used in
+    rw h handed)
     (cases_Bool (has_feed piece))
 
 -- any calls, one after the other, as long as none was too long
@@ -173,10 +173,10 @@ long_piece bytes lines content piece more so_far short long =
     let kept_none = kept_no_feed bytes so_far.pieces content.kept so_far.bytes_are in
     let both_none : has_feed (content.kept ++ before) ≡ false = list_any-append (λ byte. eqb byte 10) content.kept before ∙ or_from _ _ kept_none (none_before (λ byte. eqb byte 10) piece) in
     let beyond : line_limit < length content.kept + length before =
-        ⊎_elim (λ e. absurd (true≢false (sym e ∙ short))) (λ e. ltb-true _ _ e) (or_cases content.was_long (ltb line_limit (length content.kept + length before)) long) in
+    ⊎_elim (λ e. absurd (true≢false (sym e ∙ short))) (λ e. ltb-true _ _ e) (or_cases content.was_long (ltb line_limit (length content.kept + length before)) long) in
     let text : content.kept ++ (piece ++ more) ≡ (content.kept ++ before) ++ (rest ++ more) =
-        ap (λ given. content.kept ++ (given ++ more)) (sym (take-append-drop (position_or_len (λ byte. eqb byte 10) piece) piece))
-        ∙ ap (λ given. content.kept ++ given) (append_assoc before rest more) ∙ sym (append_assoc content.kept before (rest ++ more)) in
+    ap (λ given. content.kept ++ (given ++ more)) (sym (take-append-drop (position_or_len (λ byte. eqb byte 10) piece) piece))
+    ∙ ap (λ given. content.kept ++ given) (append_assoc before rest more) ∙ sym (append_assoc content.kept before (rest ++ more)) in
     let first = first_part (content.kept ++ before) (rest ++ more) both_none in
     let some : 0 < length first.first = omega (arith, first.longer, length-append content.kept before) in
     let behind = long_first first.first first.others some in

@@ -40,3 +40,6 @@ module _ (line : List ℕ) (some : line ≢ []) where
       → not (eqb (length (values_in (keys_field (fields_of 124 line)) (values_field (fields_of 124 line)))) (length (keys_in (keys_field (fields_of 124 line))))) ≡ false → line_within line ≡ accepted (fields_of 124 line)
   unfolding line_within
   accepted_read a b c d e = rw (some_bytes line some, a, b, c, d, e) refl
+
+-- a line by the first of its tests that fails, or by all of them
+pub ruleset reading = (not_text_read, fields_read, time_read, key_read, counts_read, accepted_read)

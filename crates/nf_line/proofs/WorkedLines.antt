@@ -12,23 +12,23 @@ use Rattle.nf_line.specs.Trace.{trace_from, Done, Refused, TooLong, InNoForm, Fa
 -- lines that are refused
 refused_lines :
     map line (
-      codes "a"
-      ∷ codes "a|1|k"
-      ∷ codes "a|1|k|v|x"
-      ∷ codes "|1"
-      ∷ codes "a|-1"
-      ∷ codes "a|"
-      ∷ codes "a|9223372036854775808"
-      ∷ codes "a|00000000000000000001"
-      ∷ codes "a|1|k;|1;2"
-      ∷ codes "a|1|k|1;2"
-      ∷ codes "a|1||x"
-      ∷ codes "a|1||;"
-      ∷ codes "a|x|;|1"
-      ∷ (97 ∷ 124 ∷ 49 ∷ 124 ∷ 124 ∷ 255 ∷ [])
-      ∷ (97 ∷ 124 ∷ 13 ∷ 49 ∷ [])
-      ∷ (97 ∷ 124 ∷ 49 ∷ 13 ∷ 13 ∷ [])
-      ∷ [])
+    codes "a"
+    ∷ codes "a|1|k"
+    ∷ codes "a|1|k|v|x"
+    ∷ codes "|1"
+    ∷ codes "a|-1"
+    ∷ codes "a|"
+    ∷ codes "a|9223372036854775808"
+    ∷ codes "a|00000000000000000001"
+    ∷ codes "a|1|k;|1;2"
+    ∷ codes "a|1|k|1;2"
+    ∷ codes "a|1||x"
+    ∷ codes "a|1||;"
+    ∷ codes "a|x|;|1"
+    ∷ (97 ∷ 124 ∷ 49 ∷ 124 ∷ 124 ∷ 255 ∷ [])
+    ∷ (97 ∷ 124 ∷ 13 ∷ 49 ∷ [])
+    ∷ (97 ∷ 124 ∷ 49 ∷ 13 ∷ 13 ∷ [])
+    ∷ [])
     ≡ map Faulty (Fields ∷ Fields ∷ Fields ∷ Fields ∷ Time ∷ Time ∷ Time ∷ Time ∷ Key ∷ Counts ∷ Counts ∷ Counts ∷ Time ∷ NotText ∷ NotText ∷ NotText ∷ [])
 unfolding line without_return is_utf8 chars encode
 refused_lines = refl

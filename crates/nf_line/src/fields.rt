@@ -54,12 +54,14 @@ pub(crate) fn read_fields(text: &str) -> Result<Fields<'_>, LineFault>
             keys: "",
             values: "",
         }),
-        (Some(name), Some(time), Some(keys), Some(values), None) if !name.is_empty() => Ok(Fields {
-            name,
-            time,
-            keys,
-            values,
-        }),
+        (Some(name), Some(time), Some(keys), Some(values), None) if !name.is_empty() => Ok(
+            Fields {
+                name,
+                time,
+                keys,
+                values,
+            },
+        ),
         _ => Err(LineFault::Fields),
     }
 }

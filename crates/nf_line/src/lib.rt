@@ -17,3 +17,6 @@ pub use liner::Liner;
 pub use pairs::Pairs;
 pub use raw_line::RawLine;
 pub use taken::Taken;
+
+#[cfg(test)]
+mod tests;

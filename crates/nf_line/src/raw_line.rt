@@ -47,7 +47,7 @@ impl<'a> RawLine<'a> {
     /// was dropped before. The answer is the accepted line, or the first fault of the table
     /// (`line_within` of specs/Line). Keys and values are parts of the line, in its order. Takes no
     /// memory.
-    #[tactic(auto, using(crate::proofs::ReadLines::not_text_read, crate::proofs::ReadLines::fields_read, crate::proofs::ReadLines::time_read, crate::proofs::ReadLines::key_read, crate::proofs::ReadLines::counts_read, crate::proofs::ReadLines::accepted_read, crate::proofs::PlainTexts::values_unmarked))]
+    #[tactic(auto, using(crate::proofs::ReadLines::reading, crate::proofs::PlainTexts::values_unmarked))]
     pub fn read(line: &'a [u8]) -> Result<RawLine<'a>, LineFault>
         requires some { line.now ≢ [] }
         requires can_be_read { CanBeRead line.now }
@@ -104,7 +104,7 @@ impl<'a> RawLine<'a> {
 
     // The cell of a key.
     #[tactic(auto, using(crate::proofs::Cells::cell_of))]
-    fn cell(&self, alloc: Global, key: &str) -> Result<Option<Value>, NoMemory>
+    pub(crate) fn cell(&self, alloc: Global, key: &str) -> Result<Option<Value>, NoMemory>
         ensures cell { IfOk result (λ cell. cell ≡ lookup (bytes_eq key.now) (reverse (map spelled self.now.texts))) }
         ensures plain { IfOk result IsPlainCell }
     {

@@ -8,7 +8,6 @@ ghost use Rattle.nf_core.specs.Texts.{IsPlainByte};
 ghost use Rattle.nf_text.specs.Value.{spelling_of};
 ghost use Rattle.nf_line.specs.Line.{value_of};
 
-
 use crate::pairs::Pairs;
 use nf_core::{NoMemory, Text, Value};
 use nf_text::{Read, read_value, spellings_are_apart};

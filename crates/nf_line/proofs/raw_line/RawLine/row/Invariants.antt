@@ -9,5 +9,5 @@ use Rattle.nf_line.proofs.raw_line.RawLine.row.Given as goal
 abbrev pub invariant-loop-place : goal.invariant-loop-place
 invariant-loop-place l = record {
   cells : l.row ≡ row_of (take l.place (keys_of l.plan l.name)) (map spelled l.self.texts);
-  plain : All IsPlainCell l.row
+  plain : All IsPlainCell l.row;
 }
