@@ -1,0 +1,41 @@
+-- The first LF of a piece.
+use Rattle.std.proofs.Common.{◌≡◌, ℕ, zero, suc, ◌<◌, ◌≤◌, Bool, true, false, cond, List, [], ◌∷◌, length, get_or, refl, arith, Some, None, sym, ◌∙◌, ⊎_elim}
+use Rattle.std.specs.List.{list_any, position, position_or_len, before_first}
+use Rattle.std.proofs.lemmas.Bool.{or_left, or_right, ltb-false, cases_lt, false≢true}
+use Rattle.std.proofs.lemmas.List.Folds.{list_any_none}
+use Rattle.std.proofs.lemmas.List.Quantifiers.{position-Some}
+use Rattle.std.proofs.lemmas.List.Sums.{fails_before_first}
+use Rattle.std.proofs.lemmas.List.{get_or-take, length-take}
+
+module _ {X : Type 0} (p : X → Bool) where
+  -- an element that passes is one of the list
+  pub any_at : (xs : List X) (i : ℕ) (d : X) → i < length xs → p (get_or xs i d) ≡ true → list_any p xs ≡ true
+  any_at [] i d h e = absurd (omega arith)
+  any_at (x ∷ xs) zero d h e = or_left (p x) (list_any p xs) e
+  any_at (x ∷ xs) (suc i) d h e = or_right (p x) (list_any p xs) (any_at xs i d (omega arith) e)
+
+  -- where a place is found, an element passes
+  pub any_found : (xs : List X) (i : ℕ) (d : X) → position p xs ≡ Some i → list_any p xs ≡ true
+  any_found xs i d e = let first = position-Some p xs i d e in any_at xs i d first.0 first.1
+
+  -- where none is found, none passes
+  not_below : (b : Bool) (n : ℕ) → cond b (Some n) None ≡ None → b ≡ false
+  not_below true n e = absurd cc
+  not_below false n e = refl
+
+  pub none_found : (xs : List X) → position p xs ≡ None → list_any p xs ≡ false
+  none_found xs e =
+      let past : length xs ≤ position_or_len p xs = ltb-false _ _ (not_below _ _ e) in
+      list_any_none p xs (λ k d h. fails_before_first p xs k d (omega arith))
+
+  -- none passes before the first one that does
+  pub none_before : (xs : List X) → list_any p (before_first p xs) ≡ false
+  none_before xs = list_any_none p (before_first p xs) (λ k d h.
+      let below : k < position_or_len p xs = omega (arith, length-take (position_or_len p xs) xs) in
+      rw (get_or-take (position_or_len p xs) xs k d below) (fails_before_first p xs k d below))
+
+  -- where an element passes, there is a first one
+  pub place_found : (xs : List X) → list_any p xs ≡ true → position_or_len p xs < length xs
+  place_found xs h = ⊎_elim (λ below. below)
+      (λ past. absurd (false≢true (sym (list_any_none p xs (λ k d below. fails_before_first p xs k d (omega arith))) ∙ h)))
+      (cases_lt (position_or_len p xs) (length xs))

@@ -1,0 +1,11 @@
+use Rattle.nf_line.proofs.CutLines.{next_call, whole_run, lines_of_cut}
+use Rattle.nf_line.proofs.laws.lines_are_those_of_the_cut.Goals as goal
+
+pub returns-clause-step : goal.returns-clause-step
+returns-clause-step c = next_call
+
+pub returns-clause-whole : goal.returns-clause-whole
+returns-clause-whole c = whole_run
+
+pub returns-clause-last : goal.returns-clause-last
+returns-clause-last c = lines_of_cut

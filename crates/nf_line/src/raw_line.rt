@@ -1,0 +1,117 @@
+//! Reading one line.
+
+ghost use Rattle.std.specs.Prelude.{◌≡◌, ◌≢◌, ◌<◌, [], length, map, reverse, bytes_eq, All, IfOk};
+ghost use Rattle.std.specs.Map.{lookup};
+ghost use Rattle.nf_core.specs.Plan.{keys_of};
+ghost use Rattle.nf_core.specs.Rows.{IsPlainCell};
+ghost use Rattle.nf_text.specs.Fields.{fields_of};
+ghost use Rattle.nf_line.specs.Line.{line_within, texts_in, keys_field, values_field, spelled};
+ghost use Rattle.nf_line.specs.Cutting.{CanBeRead};
+ghost use Rattle.nf_line.specs.Rows.{row_of};
+ghost use Rattle.nf_line.specs.Readings.{line_read};
+
+use crate::faults::LineFault;
+use crate::fields::{read_fields, read_line_time, read_text, test_counts, test_keys};
+use crate::pairs::Pairs;
+use crate::rows::{last_value, value};
+use nf_core::{NoMemory, Plan, Row, Value};
+use nf_text::plain_texts;
+use std::alloc::Global;
+use std::marker::Model;
+
+/// An accepted line. Contracts see its name, its time, and its keys and values as they are written
+/// (`Raw` of specs/Raw). Its texts are lent by the line.
+#[derive(Debug, Drop)]
+pub struct RawLine<'a> {
+    name: &'a str,
+    time: i64,
+    keys: &'a str,
+    values: &'a str,
+}
+
+impl<'a> Model for RawLine<'a> {
+    ghost use Rattle.std.specs.Prelude.{◌≡◌, false};
+    ghost use Rattle.nf_line.specs.Raw as raw;
+    ghost use Rattle.nf_line.specs.Line.{texts_in};
+    ghost use Rattle.nf_line.specs.Plain.{holds_mark};
+
+    ghost Value = { raw.Raw };
+
+    ghost view = { λ l. record { name = l.name.now; time = l.time; texts = texts_in l.keys.now l.values.now } };
+
+    ghost invariant = { λ l. holds_mark l.values.now ≡ false };
+}
+
+impl<'a> RawLine<'a> {
+    /// Reads a line that isn't empty, of at most 65,536 bytes and without LF, whose one CR at the end
+    /// was dropped before. The answer is the accepted line, or the first fault of the table
+    /// (`line_within` of specs/Line). Keys and values are parts of the line, in its order. Takes no
+    /// memory.
+    #[tactic(auto, using(crate::proofs::ReadLines::reading, crate::proofs::PlainTexts::values_unmarked))]
+    pub fn read(line: &'a [u8]) -> Result<RawLine<'a>, LineFault>
+        requires some { line.now ≢ [] }
+        requires can_be_read { CanBeRead line.now }
+        ensures line { line_read result ≡ line_within line.now }
+        ensures parts { IfOk result (λ raw. raw.texts ≡ texts_in (keys_field (fields_of 124 line.now)) (values_field (fields_of 124 line.now))) }
+    {
+        let text = read_text(line)?;
+        let fields = read_fields(text)?;
+        let time = read_line_time(fields.time)?;
+        test_keys(fields.keys)?;
+        test_counts(fields.keys, fields.values)?;
+        Ok(RawLine {
+            name: fields.name,
+            time,
+            keys: fields.keys,
+            values: fields.values,
+        })
+    }
+
+    /// The name. Takes no memory.
+    pub fn name(&self) -> &'a str
+        ensures { result.now ≡ self.now.name }
+    {
+        self.name
+    }
+
+    /// The time. Takes no memory.
+    pub fn time(&self) -> i64
+        ensures { result ≡ self.now.time }
+    {
+        self.time
+    }
+
+    /// The keys with their values, as they are written, in their order. Takes no memory.
+    pub fn pairs(&self) -> Pairs<'a>
+        ensures { result ≡ self.now.texts }
+    {
+        Pairs::of(self.keys, self.values)
+    }
+
+    /// The row of a name of the plan: each of its keys has the value of its last pair, or is missing
+    /// (`row_of` of specs/Rows). Its texts are plain.
+    pub fn row(&self, alloc: Global, plan: &Plan, name: u32) -> Result<Row, NoMemory>
+        requires { name < length plan.now.names }
+        ensures row { IfOk result (λ row. row ≡ row_of (keys_of plan.now name) (map spelled self.now.texts)) }
+        ensures plain { IfOk result (All IsPlainCell) }
+    {
+        let mut row = Row::new(alloc);
+        for place in 0..plan.keys(name) {
+            row.push(self.cell(alloc, plan.key(name, place))?)?;
+        }
+        Ok(row)
+    }
+
+    // The cell of a key.
+    #[tactic(auto, using(crate::proofs::Cells::cell_of))]
+    pub(crate) fn cell(&self, alloc: Global, key: &str) -> Result<Option<Value>, NoMemory>
+        ensures cell { IfOk result (λ cell. cell ≡ lookup (bytes_eq key.now) (reverse (map spelled self.now.texts))) }
+        ensures plain { IfOk result IsPlainCell }
+    {
+        plain_texts();
+        match last_value(Pairs::of(self.keys, self.values), key) {
+            Some(text) => Ok(Some(value(alloc, text)?)),
+            None => Ok(None),
+        }
+    }
+}
