@@ -1,0 +1,15 @@
+//! The grammar of specifications, and its parser.
+//!
+//! The rule is `Spells` in specs/Answers.antt: the tokens of a source, as nf_lex divides it, are a word
+//! of `File` in specs/Grammar.antt, which has the grammar production by production over the parts of
+//! specs/Combinators.antt, within the two limits of an expression. `parse` gives the modules that such
+//! a source spells, as trees of nf_core. The printer and the reader of whole specifications stand above it.
+#![tactic(auto)]
+
+mod fault;
+mod level;
+mod parsing;
+mod symbol;
+
+pub use fault::ParseFault;
+pub use parsing::parse;
