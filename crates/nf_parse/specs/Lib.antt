@@ -2,3 +2,5 @@ pub mod State
 pub mod Combinators
 pub mod Grammar
 pub mod Answers
+pub mod Parsers
+pub mod Reading
