@@ -1,0 +1,4 @@
+pub mod Exact
+pub mod ChainExact
+pub mod UnaryExact
+pub mod PrimaryExact
