@@ -2,3 +2,4 @@ pub mod Exact
 pub mod ChainExact
 pub mod UnaryExact
 pub mod PrimaryExact
+pub mod ExpressionExact
