@@ -3,3 +3,4 @@ pub mod ChainExact
 pub mod UnaryExact
 pub mod PrimaryExact
 pub mod ExpressionExact
+pub mod Steps
