@@ -5,3 +5,4 @@ pub mod PrimaryExact
 pub mod ExpressionExact
 pub mod Steps
 pub mod Bytes
+pub mod Loops
