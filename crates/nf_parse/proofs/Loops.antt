@@ -4,13 +4,16 @@ use Rattle.nf_core.specs.declared.operators.BinOp.{BinOp}
 use Rattle.nf_core.specs.declared.trees.Expr.{Expr}
 use Rattle.nf_core.specs.declared.trees.Expr.TheVariants as node
 use Rattle.nf_parse.specs.declared.fault.Fault.{Fault}
+use Rattle.nf_parse.specs.declared.fault.Halt.{Halt}
+use Rattle.nf_parse.specs.declared.fault.Halt.TheVariants as halt
+use Rattle.nf_parse.specs.declared.symbol.Sym.TheVariants as kind
 use Rattle.nf_parse.specs.declared.level.Level.{Level}
 use Rattle.nf_parse.specs.declared.level.Level.TheVariants as level
 use Rattle.nf_parse.specs.declared.symbol.Sym.{Sym}
-use Rattle.nf_parse.specs.State.{State, state, next}
+use Rattle.nf_parse.specs.State.{Word, State, state, next, next_of}
 use Rattle.nf_parse.specs.Combinators.{Operator}
-use Rattle.nf_parse.specs.Parsers.{Outcome, Parser, bind, and_then, done, too_deep, operator, in_table, IsWithin}
-use Rattle.nf_parse.specs.Reading.{chain_from, chain}
+use Rattle.nf_parse.specs.Parsers.{Outcome, Parser, bind, and_then, done, too_deep, operator, in_table, IsWithin, Reads, Stops}
+use Rattle.nf_parse.specs.Reading.{chain_from, chain, sign_of, unary_from, unary}
 use Rattle.nf_parse.proofs.Exact.{ok_same, bound, then_is, operator_sound, found}
 use Rattle.nf_parse.proofs.Steps.{operator_full}
 
@@ -92,3 +95,46 @@ module _ (table : Sym → Option BinOp) (p : Parser Expr) where
 
   pub chain_end : (start : State) (left : Expr) (now : State) → IsChainAt start left now → in_table table (next now) ≡ None → chain table p start ≡ Ok (left, now)
   chain_end start left now c h = sym c.goes_on ∙ from_done c.turns left now h
+
+-- a call that stops where its parser does
+pub reads_err : {A B : Type 0} (q : Outcome A) (o : Outcome B) → ((f : Fault) → q ≡ Err f → o ≡ Err f) → (h : Halt) (new now : State) → Reads q (Err h) new → Reads o (Err h) now
+reads_err q o k halt.NoMemory new now r = tt
+reads_err q o k (halt.At f) new now r = k f r
+
+pub stops_err : {A B : Type 0} (q : Outcome A) (o : Outcome B) → ((f : Fault) → q ≡ Err f → o ≡ Err f) → (h : Halt) (now : State) → Stops q h → Reads o (Err h) now
+stops_err q o k halt.NoMemory now r = tt
+stops_err q o k (halt.At f) now r = k f r
+
+pub then_stops : {A B : Type 0} (p : Parser A) (k : A → Parser B) (s : State) (f : Fault) → p s ≡ Err f → and_then p k s ≡ Err f
+then_stops p k s f h = ap (λ o. bind o k) h
+
+-- signs
+module _ (p : Parser Expr) where
+  from_sign : (n : ℕ) (words : List Word) (sign : Expr → Expr) → sign_of (next_of words) ≡ Some sign
+      → unary_from p n (state n words) ≡ and_then operator (λ word. and_then (unary p) (λ x. done (sign x))) (state n words)
+  unfolding unary_from unary operator
+  from_sign n [] sign h = cc
+  from_sign zero (word ∷ words) sign h = rw h refl
+  from_sign (suc n) (word ∷ words) sign h = rw h refl
+
+  from_prim : (n : ℕ) (s : State) → sign_of (next s) ≡ None → unary_from p n s ≡ p s
+  unfolding unary_from
+  from_prim zero s h = rw h refl
+  from_prim (suc n) s h = rw h refl
+
+  pub unary_minus : (s : State) → next s ≡ Some kind.Minus → unary p s ≡ and_then operator (λ word. and_then (unary p) (λ x. done (node.Neg x))) s
+  unfolding unary
+  unary_minus s h = from_sign s.operators s.words node.Neg (ap sign_of h)
+
+  pub unary_bang : (s : State) → next s ≡ Some kind.Bang → unary p s ≡ and_then operator (λ word. and_then (unary p) (λ x. done (node.Not x))) s
+  unfolding unary
+  unary_bang s h = from_sign s.operators s.words node.Not (ap sign_of h)
+
+  no_sign : (n : Option Sym) → (n ≡ Some kind.Minus → ⊥) → (n ≡ Some kind.Bang → ⊥) → sign_of n ≡ None
+  no_sign (Some kind.Minus) a b = absurd (a refl)
+  no_sign (Some kind.Bang) a b = absurd (b refl)
+  no_sign n a b = refl
+
+  pub unary_other : (s : State) → (next s ≡ Some kind.Minus → ⊥) → (next s ≡ Some kind.Bang → ⊥) → unary p s ≡ p s
+  unfolding unary
+  unary_other s a b = from_prim s.operators s (no_sign (next s) a b)

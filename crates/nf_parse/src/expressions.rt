@@ -106,6 +106,7 @@ fn comparison(alloc: Global, depth: usize, reader: &mut Reader<'_>) -> Result<Ex
 
 /// An operand behind any number of signs.
 #[cycle(parser)]
+#[tactic(auto, using(crate::proofs::Loops::unary_minus, crate::proofs::Loops::unary_bang, crate::proofs::Loops::unary_other))]
 fn unary(alloc: Global, depth: usize, reader: &mut Reader<'_>) -> Result<Expr, Halt>
     ensures reads { Reads (spec.unary (spec.primary (spec.paren depth)) reader.old) result reader.new }
     ensures within { IsWithin reader.old reader.new }
