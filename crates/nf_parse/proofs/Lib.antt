@@ -6,3 +6,7 @@ pub mod ExpressionExact
 pub mod Steps
 pub mod Bytes
 pub mod Loops
+pub mod Larger
+pub mod LargerExpressions
+pub mod Counted
+pub mod CountedExpressions
