@@ -10,3 +10,4 @@ pub mod Larger
 pub mod LargerExpressions
 pub mod Counted
 pub mod CountedExpressions
+pub mod Limits
