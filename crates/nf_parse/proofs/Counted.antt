@@ -36,10 +36,10 @@ pub record IsCounted {A : Type 0} (depth : ℕ) (p : Parser A) : Type 0 where
   pub counts : (s : State) → Counts depth s (p s)
 
 -- two runs
-counted_append : (class : Sym → Bool) (xs ys : List Word) → count class (xs ++ ys) ≡ count class xs + count class ys
+pub counted_append : (class : Sym → Bool) (xs ys : List Word) → count class (xs ++ ys) ≡ count class xs + count class ys
 counted_append class xs ys = sum_by-append (λ (w : Word). cond (class w.0) 1 0) xs ys
 
-run_append : (xs ys : List Word) → IsRun xs → IsRun ys → IsRun (xs ++ ys)
+pub run_append : (xs ys : List Word) → IsRun xs → IsRun ys → IsRun (xs ++ ys)
 run_append _ ys answers.empty r = r
 run_append _ ys (answers.operator {run} h a) r = answers.operator h (run_append run ys a r)
 run_append _ ys (answers.operand {run} h a) r = answers.operand h (run_append run ys a r)
@@ -100,7 +100,7 @@ pub record IsOperand (k : Sym) : Type 0 where
   pub opening : is_open k ≡ false
   pub closing : is_close k ≡ false
 
-one_count : (class : Sym → Bool) (b : Bool) (k : Sym) (bytes : List ℕ) → class k ≡ b → count class ((k, bytes) ∷ []) ≡ cond b 1 0
+pub one_count : (class : Sym → Bool) (b : Bool) (k : Sym) (bytes : List ℕ) → class k ≡ b → count class ((k, bytes) ∷ []) ≡ cond b 1 0
 one_count class true k bytes h = rw h refl
 one_count class false k bytes h = rw h refl
 

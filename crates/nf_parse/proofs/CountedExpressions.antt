@@ -15,10 +15,10 @@ use Rattle.nf_parse.specs.Combinators.{Token}
 use Rattle.nf_parse.specs.Grammar.{op_at}
 use Rattle.nf_parse.specs.Answers as answers
 use Rattle.nf_parse.specs.Answers.{is_operator, is_operand, is_open, is_close, is_time, count, IsRun}
-use Rattle.nf_parse.specs.Parsers.{Outcome, Parser, bind, and_then, done, refuse, too_deep, is_at, in_table, token, operator, after, enclosed, at_operator, bytes_of, tail_of}
+use Rattle.nf_parse.specs.Parsers.{Outcome, Parser, bind, and_then, done, refuse, too_deep, is_sym, is_at, in_table, token, operator, after, enclosed, at_operator, bytes_of, tail_of}
 use Rattle.nf_parse.specs.Reading.{chain_from, chain, single, sign_of, unary_from, unary, member_at, member, read, primary_at, primary, product, sum, comparison, conjunction, expression, paren}
-use Rattle.nf_parse.proofs.Exact.{bound, token_exact, ok_same, found}
-use Rattle.nf_parse.proofs.Counted.{Ran, Past, Counts, IsCounted, ran_none, ran_ran, ran_past, ran_counts, bind_counts, at_counts, token_cases, IsOperand, operand_ran, operand_counts, IsSign, limit_past, sign_counts, operator_used}
+use Rattle.nf_parse.proofs.Exact.{bound, token_exact, ok_same, found, same_is}
+use Rattle.nf_parse.proofs.Counted.{Ran, Past, Counts, IsCounted, ran_none, ran_ran, ran_past, ran_counts, bind_counts, at_counts, token_cases, IsOperand, operand_ran, operand_counts, IsSign, limit_past, sign_counts, operator_used, counted_append, run_append, one_count}
 
 module _ (depth : ℕ) (table : Sym → Option BinOp) (signs : (k : Sym) (o : BinOp) → table k ≡ Some o → IsSign k) (p : Parser Expr) (f : IsCounted depth p) where
   full : (s : State) (o : BinOp) → in_table table (next s) ≡ Some o → s.operators ≤ 0 → Past depth s
@@ -195,3 +195,88 @@ tower_counts depth p f =
     let d = single_counts depth (op_at level.Compare) (level_signs level.Compare) (sum p) c in
     let e = chain_counts depth (op_at level.And) (level_signs level.And) (comparison p) d in
     chain_counts depth (op_at level.Or) (level_signs level.Or) (conjunction p) e
+
+-- parentheses, and what stands between them one less deep
+module _ (depth : ℕ) where
+  open_kinds : (is_operator kind.Open ≡ false) × (is_open kind.Open ≡ true) × (is_close kind.Open ≡ false)
+  unfolding is_operator is_open is_close
+  open_kinds = (refl, refl, refl)
+
+  close_kinds : (is_operator kind.Close ≡ false) × (is_open kind.Close ≡ false) × (is_close kind.Close ≡ true)
+  unfolding is_operator is_open is_close
+  close_kinds = (refl, refl, refl)
+
+  -- the count of a class with a word in front
+  in_front : (class : Sym → Bool) (b : Bool) (k : Sym) (bytes : List ℕ) (run : List Word) → class k ≡ b → count class ((k, bytes) ∷ run) ≡ cond b 1 0 + count class run
+  in_front class b k bytes run h = counted_append class ((k, bytes) ∷ []) run ∙ ap (λ n. n + count class run) (one_count class b k bytes h)
+
+  -- the count of a class with a word behind
+  at_end : (class : Sym → Bool) (b : Bool) (k : Sym) (bytes : List ℕ) (run : List Word) → class k ≡ b → count class (run ++ ((k, bytes) ∷ [])) ≡ count class run + cond b 1 0
+  at_end class b k bytes run h = counted_append class run ((k, bytes) ∷ []) ∙ ap (λ n. count class run + n) (one_count class b k bytes h)
+
+  enclosed_ran : (s t u v : State) (a b : List ℕ) → Token kind.Open s a t → Ran t u → Token kind.Close u b v → Ran s v
+  enclosed_ran s t u v a b x r y =
+      let inner = r.run ++ ((kind.Close, b) ∷ []) in
+      record {
+        run = (kind.Open, a) ∷ inner;
+        is = x.words ∙ ap (λ ws. (kind.Open, a) ∷ ws) (r.is ∙ ap (λ ws. r.run ++ ws) y.words ∙ sym (append_assoc r.run ((kind.Close, b) ∷ []) v.words));
+        runs = answers.paren (inl open_kinds.1) (run_append r.run ((kind.Close, b) ∷ []) r.runs (answers.paren (inr close_kinds.2) answers.empty));
+        used = omega (arith, x.operators, r.used, y.operators, in_front is_operator false kind.Open a inner open_kinds.0, at_end is_operator false kind.Close b r.run close_kinds.0);
+        closed = omega (arith, r.closed, in_front is_open true kind.Open a inner open_kinds.1, at_end is_open false kind.Close b r.run close_kinds.1,
+            in_front is_close false kind.Open a inner open_kinds.2, at_end is_close true kind.Close b r.run close_kinds.2);
+      }
+
+  enclosed_past : (s t : State) (a : List ℕ) → Token kind.Open s a t → Past depth t → Past (suc depth) s
+  enclosed_past s t a x r = record {
+    run = (kind.Open, a) ∷ r.run;
+    after = r.after;
+    is = x.words ∙ ap (λ ws. (kind.Open, a) ∷ ws) r.is;
+    runs = answers.paren (inl open_kinds.1) r.runs;
+    past = ⊎_elim
+        (λ h. inl (omega (arith, h, x.operators, in_front is_operator false kind.Open a r.run open_kinds.0)))
+        (λ h. inr (omega (arith, h, in_front is_open true kind.Open a r.run open_kinds.1, in_front is_close false kind.Open a r.run open_kinds.2))) r.past;
+  }
+
+  closing_counts : (s t u : State) (a : List ℕ) (x : Expr) → Token kind.Open s a t → Ran t u → Counts (suc depth) s (after kind.Close (done x) u)
+  closing_counts s t u a x o r = ⊎_elim {A = (v : State) × (bytes : List ℕ) × (token kind.Close u ≡ Ok (bytes, v))}
+      (λ c. subst (λ z. Counts (suc depth) s (bind z (λ b. done x))) (sym c.2) (enclosed_ran s t u c.0 a c.1 o r ((token_exact kind.Close).sound u c.0 c.1 c.2)))
+      (λ c. subst (λ z. Counts (suc depth) s (bind z (λ b. done x))) (sym c) tt) (token_cases kind.Close u)
+
+  inner_counts : (s t : State) (a : List ℕ) → Token kind.Open s a t → (o : Outcome Expr) → Counts depth t o → Counts (suc depth) s (bind o (λ x. after kind.Close (done x)))
+  inner_counts s t a r (Ok read) c = closing_counts s t read.1 a read.0 r c
+  inner_counts s t a r (Err (fault.Grammar n)) c = tt
+  inner_counts s t a r (Err (fault.TooDeep n)) c = enclosed_past s t a r c
+
+  enclosed_counts : (p : Parser Expr) → IsCounted depth p → IsCounted (suc depth) (enclosed kind.Open kind.Close p)
+  enclosed_counts p f = record { counts = λ s. ⊎_elim {A = (t : State) × (bytes : List ℕ) × (token kind.Open s ≡ Ok (bytes, t))}
+      (λ r. subst (λ z. Counts (suc depth) s (bind z (λ b. and_then p (λ x. after kind.Close (done x))))) (sym r.2) (inner_counts s r.0 r.1 ((token_exact kind.Open).sound s r.0 r.1 r.2) (p r.0) (f.counts r.0)))
+      (λ r. subst (λ z. Counts (suc depth) s (bind z (λ b. and_then p (λ x. after kind.Close (done x))))) (sym r) tt) (token_cases kind.Open s) }
+
+  paren_within : IsCounted (suc depth) (enclosed kind.Open kind.Close (expression (paren depth))) → IsCounted (suc depth) (paren (suc depth))
+  unfolding paren
+  paren_within f = record { counts = f.counts }
+
+-- the first parenthesis too many
+open_past : (n : ℕ) (words : List Word) → is_sym (next_of words) kind.Open ≡ true → Past 0 (state n words)
+open_past n [] h = cc
+open_past n (word ∷ words) h =
+    let e : word.0 ≡ kind.Open = same_is word.0 kind.Open h in
+    record {
+      run = word ∷ [];
+      after = words;
+      is = refl;
+      runs = answers.paren (inl (ap is_open e ∙ (open_kinds 0).1)) answers.empty;
+      past = inr (omega (arith, one_count is_open true word.0 word.1 (ap is_open e ∙ (open_kinds 0).1), one_count is_close false word.0 word.1 (ap is_close e ∙ (open_kinds 0).2)));
+    }
+
+none_counts : (s : State) (b : Bool) → is_at kind.Open s ≡ b → Counts 0 s (cond {A = Outcome Expr} b (too_deep s) (refuse s))
+none_counts s true h = open_past s.operators s.words h
+none_counts s false h = tt
+
+pub paren_counts : (depth : ℕ) → IsCounted depth (paren depth)
+unfolding paren
+paren_counts zero = record { counts = λ s. none_counts s (is_at kind.Open s) refl }
+paren_counts (suc depth) = paren_within depth (enclosed_counts depth (expression (paren depth)) (tower_counts depth (paren depth) (paren_counts depth)))
+
+pub expression_counts : (depth : ℕ) → IsCounted depth (expression (paren depth))
+expression_counts depth = tower_counts depth (paren depth) (paren_counts depth)

@@ -11,3 +11,4 @@ pub mod LargerExpressions
 pub mod Counted
 pub mod CountedExpressions
 pub mod Limits
+pub mod ExpressionRead
