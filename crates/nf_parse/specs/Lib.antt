@@ -2,3 +2,6 @@ pub mod State
 pub mod Combinators
 pub mod Grammar
 pub mod Answers
+pub mod Parsers
+pub mod Parts
+pub mod RuleReading
