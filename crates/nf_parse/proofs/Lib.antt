@@ -1,1 +1,6 @@
+pub mod Exact
+pub mod ChainExact
+pub mod UnaryExact
+pub mod PrimaryExact
+pub mod ExpressionExact
 pub mod PartsExact

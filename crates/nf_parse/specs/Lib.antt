@@ -3,5 +3,6 @@ pub mod Combinators
 pub mod Grammar
 pub mod Answers
 pub mod Parsers
+pub mod Reading
 pub mod Parts
 pub mod RuleReading

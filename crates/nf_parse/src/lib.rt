@@ -9,7 +9,9 @@
 mod fault;
 mod level;
 mod parsing;
+mod reader;
 mod symbol;
+mod symbols;
 
 pub use fault::ParseFault;
 pub use parsing::parse;
