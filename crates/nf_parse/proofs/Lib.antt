@@ -4,3 +4,4 @@ pub mod UnaryExact
 pub mod PrimaryExact
 pub mod ExpressionExact
 pub mod PartsExact
+pub mod RulesExact

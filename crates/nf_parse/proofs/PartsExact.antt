@@ -1,21 +1,17 @@
 -- The parts of rules are read exactly.
 use Rattle.std.proofs.Common.{◌≡◌, ℕ, zero, suc, ◌<◌, ◌≤◌, ◌⊎◌, inl, inr, Bool, true, false, cond, List, [], ◌∷◌, ◌++◌, length, refl, sym, ap, ◌∙◌, subst, arith, rules, ⊎_elim, Option, Some, None, Result, Ok, Err}
-use denote.Enum.Bare.{sameb, same_true}
-use borrow.Author.Tests.{eq-eqb}
-use Rattle.nf_parse.specs.contracts.symbol.Sym.{the_type}
 use Rattle.nf_parse.specs.declared.symbol.Sym.{Sym}
 use Rattle.nf_parse.specs.declared.fault.Fault.{Fault}
 use Rattle.nf_parse.specs.State.{Word, State, state, next, next_of}
 use Rattle.nf_parse.specs.Combinators.{Relation, Token, OneOf, Done, Then, After, Enclosed, Either, left, right, Optional, absent, present, Separated, one, more, Repeated, none, some, Whole}
 use Rattle.nf_parse.specs.Parsers.{Outcome, Parser, behind, tail_of, bytes_of, bind, and_then, done, same, is_sym, is_at, refuse, token, after, enclosed, restored, whole, in_table, at_operator}
+use Rattle.nf_parse.proofs.Exact as exact
+use Rattle.nf_parse.proofs.Exact.{IsExact, always, ok_same, same_is, same_self, token_next}
 use Rattle.nf_parse.specs.Parts.{one_of, choose, in_some, optional, in_list, repeated_from, repeated, next_part, separated}
 
 -- what the next word may be
 abbrev pub Next : Type 1
 Next = Option Sym → Type 0
-
-abbrev pub always : Next
-always n = Unit
 
 -- a parser reads what a relation has: what it reads is a word, a word before a place where it may stop is read, and such a word begins with one of some words
 pub record IsExactPart {A : Type 0} (p : Parser A) (R : Relation A) (first stop : Next) : Type 0 where
@@ -24,15 +20,9 @@ pub record IsExactPart {A : Type 0} (p : Parser A) (R : Relation A) (first stop 
   pub begins : (s t : State) (x : A) → R s x t → stop (next t) → first (next s)
 
 -- the kinds of words
-pub same_back : (a b : Sym) → same a b ≡ true → a ≡ b
-same_back a b e = same_true the_type (search rules) a b e
-
-pub same_self : (a : Sym) → same a a ≡ true
-same_self a = eq-eqb _ _ refl
-
 pub at_back : (k : Sym) (n : Option Sym) → is_sym n k ≡ true → n ≡ Some k
 at_back k None e = absurd (cc)
-at_back k (Some j) e = ap Some (same_back j k e)
+at_back k (Some j) e = ap Some (same_is j k e)
 
 pub at_self : (k : Sym) (n : Option Sym) → n ≡ Some k → is_sym n k ≡ true
 at_self k n e = rw e (same_self k)
@@ -42,7 +32,9 @@ abbrev read_as : {A : Type 0} → A → State → Outcome A
 read_as x s = Ok (x, s)
 
 ok_value : {A : Type 0} (x y : A) (s t : State) → read_as x s ≡ Ok (y, t) → (x ≡ y) × (s ≡ t)
-ok_value x y s t e = (cc, cc)
+ok_value {A} x y s t e =
+    let r = ok_same (x, s) (y, t) (Ok (x, s)) refl e in
+    (ap (λ (read : A × State). read.0) r, ap (λ (read : A × State). read.1) r)
 
 no_ok : {A : Type 0} (f : Fault) (read : A × State) → Err f ≡ Ok read → ⊥
 no_ok f read e = cc
@@ -50,30 +42,14 @@ no_ok f read e = cc
 -- one word of a kind
 token_word : (k : Sym) (o : ℕ) (ws : List Word) → is_sym (next_of ws) k ≡ true → Token k (state o ws) (bytes_of ws) (behind (state o ws))
 token_word k o [] e = absurd (cc)
-token_word k o (w ∷ ws) e = record { words = ap (λ j. (j, w.1) ∷ ws) (same_back w.0 k e); operators = refl }
+token_word k o (w ∷ ws) e = record { words = ap (λ j. (j, w.1) ∷ ws) (same_is w.0 k e); operators = refl }
 
-token_sound : (k : Sym) (s t : State) (x : List ℕ) (b : Bool) → is_at k s ≡ b → cond b (Ok (bytes_of s.words, behind s)) (refuse s) ≡ Ok (x, t) → Token k s x t
-token_sound k s t x true e f =
-    let p = ok_value (bytes_of s.words) x (behind s) t f in
-    subst (λ y. Token k s y t) p.0 (subst (λ u. Token k s (bytes_of s.words) u) p.1 (token_word k s.operators s.words e))
-token_sound k s t x false e f = absurd (no_ok _ (x, t) f)
-
-token_next : (k : Sym) (s t : State) (x : List ℕ) → Token k s x t → next s ≡ Some k
-token_next k s t x w = ap next_of w.words
+-- what is read exactly, where it doesn't matter with which word it begins
+pub part_of : {A : Type 0} (p : Parser A) (R : Relation A) (stop : Next) → IsExact p R stop → IsExactPart p R always stop
+part_of p R stop f = record { sound = f.sound; complete = f.complete; begins = λ s t x w h. tt }
 
 pub token_exact : (k : Sym) → IsExactPart (token k) (Token k) (λ n. n ≡ Some k) always
-unfolding token
-token_exact k = record {
-  sound = λ s t x e. token_sound k s t x (is_at k s) refl e;
-  complete = λ s t x w h. go s t x w;
-  begins = λ s t x w h. token_next k s t x w;
-}
-  where
-    go : (s t : State) (x : List ℕ) → Token k s x t → token k s ≡ Ok (x, t)
-    go s t x w =
-        let b : is_at k s ≡ true = at_self k (next s) (token_next k s t x w) in
-        let u : state s.operators t.words ≡ t = ap (λ o. state o t.words) (sym w.operators) in
-        rw b (rw w.words (ap (λ v. Ok (x, v)) u))
+token_exact k = record { sound = (exact.token_exact k).sound; complete = (exact.token_exact k).complete; begins = λ s t x w h. token_next k s t x w }
 
 -- nothing
 pub done_exact : {A : Type 0} (x : A) (stop : Next) → IsExactPart (done x) (Done x) stop stop
