@@ -111,9 +111,9 @@ module _ (k : Sym) where
   unfolding operator
   operator_sound s t x n e = go s.operators s.words n e
     where
-      go : (m : ℕ) (words : List Word) → next_of words ≡ Some k → use_up m (state m words) ≡ Ok (x, t) → Operator k (state m words) t
-      go zero words n e = cc
-      go (suc m) [] n e = cc
+      go : (m : ℕ) (words : List Word) → next_of words ≡ Some k → use_up m words ≡ Ok (x, t) → Operator k (state m words) t
+      go m [] n e = cc
+      go zero (word ∷ words) n e = cc
       go (suc m) (word ∷ words) n e =
           let r = ok_same (word.1, state m words) (x, t) (Ok (word.1, state m words)) refl e in
           let i : word.0 ≡ k = cc in

@@ -5,3 +5,4 @@ pub mod PrimaryExact
 pub mod ExpressionExact
 pub mod PartsExact
 pub mod RulesExact
+pub mod Steps

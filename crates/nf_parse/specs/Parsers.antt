@@ -8,7 +8,10 @@ use Rattle.nf_parse.specs.declared.fault.Fault.{Fault}
 use Rattle.nf_parse.specs.declared.fault.Fault.TheVariants as fault
 use Rattle.nf_parse.specs.declared.fault.Halt.{Halt}
 use Rattle.nf_parse.specs.declared.fault.Halt.TheVariants as halt
-use Rattle.nf_parse.specs.State.{Word, State, state, next}
+use Rattle.nf_lex.specs.declared.token.TokenKind.{TokenKind}
+use Rattle.nf_lex.specs.Words.{kind_of}
+use Rattle.nf_lex.specs.Faults.{fault_of}
+use Rattle.nf_parse.specs.State.{Word, State, state, next, sym_of}
 
 -- what is read with the state behind it, or a fault
 abbrev pub Outcome : Type 0 → Type 0
@@ -83,12 +86,13 @@ unfoldable pub whole : {A : Type 0} → Parser A → Parser A
 whole p s = restored s.operators (p s)
 
 -- the next word as an operator, which uses one up
-abbrev pub use_up : ℕ → Parser (List ℕ)
-use_up zero s = too_deep s
-use_up (suc n) s = Ok (bytes_of s.words, state n (tail_of s.words))
+abbrev pub use_up : ℕ → List Word → Outcome (List ℕ)
+use_up n [] = refuse (state n [])
+use_up zero (word ∷ words) = too_deep (state zero (word ∷ words))
+use_up (suc n) (word ∷ words) = Ok (word.1, state n words)
 
 unfoldable pub operator : Parser (List ℕ)
-operator s = use_up s.operators s
+operator s = use_up s.operators s.words
 
 -- what a table has for the next word
 abbrev pub in_table : {A : Type 0} → (Sym → Option A) → Option Sym → Option A
@@ -105,6 +109,18 @@ abbrev pub Reads : {A : Type 0} → Outcome A → Result A Halt → State → Ty
 Reads outcome (Ok x) new = outcome ≡ Ok (x, new)
 Reads outcome (Err halt.NoMemory) new = Unit {0}
 Reads outcome (Err (halt.At f)) new = outcome ≡ Err f
+
+-- a call that stops as a parser does; want of memory is free
+abbrev pub Stops : {A : Type 0} → Outcome A → Halt → Type 0
+Stops outcome halt.NoMemory = Unit {0}
+Stops outcome (halt.At f) = outcome ≡ Err f
+
+-- the bytes of a word of a kind: those of a token without fault
+pub record IsSound (k : Sym) (bytes : List ℕ) : Type 0 where
+  pub kind : TokenKind
+  pub is : k ≡ sym_of kind bytes
+  pub form : kind_of bytes ≡ Some kind
+  pub sound : (line : ℕ) → fault_of kind bytes line ≡ None
 
 -- nothing is put back
 pub record IsWithin (old new : State) : Type 0 where

@@ -1,6 +1,7 @@
 //! The reader of tokens.
 
-ghost use Rattle.std.specs.Prelude.{◌≡◌, ◌≤◌, ◌<◌, length, IfOk, IfErr, OnOk, Ok, All};
+ghost use Rattle.std.specs.Prelude.{◌≡◌, ◌+◌, ◌≤◌, ◌<◌, length, IfOk, IfErr, OnOk, Ok, Some, All};
+ghost use Rattle.nf_parse.specs.declared.symbol.Sym.{Sym};
 ghost use Rattle.nf_lex.specs.Layout.{IsTokenOf};
 ghost use Rattle.nf_parse.specs.declared.fault.Halt.TheVariants as halt;
 ghost use Rattle.nf_parse.specs.declared.fault.Fault.TheVariants as fault;
@@ -100,6 +101,7 @@ impl<'a> Reader<'a> {
         requires { 0 < length self.old.words }
         ensures bytes { result.now ≡ spec.bytes_of self.old.words }
         ensures behind { self.new ≡ spec.behind self.old }
+        ensures sound { (k : Sym) → next self.old ≡ Some k → spec.IsSound k result.now }
     {
         match self.tokens {
             [] => unreachable!(),
@@ -109,5 +111,57 @@ impl<'a> Reader<'a> {
                 slice(self.source, first.span)
             }
         }
+    }
+
+    /// The bytes of the next word, which has to be of this kind. Otherwise nothing is read.
+    #[tactic(auto, using(crate::proofs::Steps::token_read, crate::proofs::Steps::token_refused))]
+    pub(crate) fn take(&mut self, kind: Sym) -> Result<&'a [u8], Halt>
+        ensures reads { IfOk result (λ bytes. spec.token kind self.old ≡ Ok (bytes.now, self.new)) }
+        ensures stops { IfErr result (spec.Stops (spec.token kind self.old)) }
+        ensures sound { IfOk result (λ bytes. spec.IsSound kind bytes.now) }
+        ensures within { spec.IsWithin self.old self.new }
+        ensures shorter { IfOk result (λ _. length self.new.words < length self.old.words) }
+    {
+        if self.is_at(kind) {
+            Ok(self.advance())
+        } else {
+            Err(self.refuse())
+        }
+    }
+
+    /// Goes past the next word, which has to be of this kind. Otherwise nothing is read.
+    #[tactic(auto, using(crate::proofs::Steps::token_read, crate::proofs::Steps::token_refused))]
+    pub(crate) fn skip(&mut self, kind: Sym) -> Result<(), Halt>
+        ensures reads { OnOk result (spec.token kind self.old ≡ Ok (spec.bytes_of self.old.words, self.new)) }
+        ensures stops { IfErr result (spec.Stops (spec.token kind self.old)) }
+        ensures within { spec.IsWithin self.old self.new }
+        ensures shorter { OnOk result (length self.new.words < length self.old.words) }
+    {
+        if self.is_at(kind) {
+            self.advance();
+            Ok(())
+        } else {
+            Err(self.refuse())
+        }
+    }
+
+    /// Goes past the next word as an operator. Where no more may be read, nothing is.
+    #[tactic(auto, using(crate::proofs::Steps::operator_read, crate::proofs::Steps::operator_full, crate::proofs::Steps::operator_refused))]
+    pub(crate) fn operator(&mut self) -> Result<(), Halt>
+        ensures reads { OnOk result (spec.operator self.old ≡ Ok (spec.bytes_of self.old.words, self.new)) }
+        ensures stops { IfErr result (spec.Stops (spec.operator self.old)) }
+        ensures within { spec.IsWithin self.old self.new }
+        ensures shorter { OnOk result (length self.new.words < length self.old.words) }
+        ensures fewer { OnOk result (self.old.operators ≡ 1 + self.new.operators) }
+    {
+        let Some(_) = self.ahead else {
+            return Err(self.refuse());
+        };
+        if self.operators == 0 {
+            return Err(self.too_deep());
+        }
+        self.operators -= 1;
+        self.advance();
+        Ok(())
     }
 }
