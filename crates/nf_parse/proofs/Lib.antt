@@ -4,5 +4,7 @@ pub mod UnaryExact
 pub mod PrimaryExact
 pub mod ExpressionExact
 pub mod PartsExact
-pub mod RulesExact
 pub mod Steps
+pub mod PartsRead
+pub mod RulesRead
+pub mod RulesExact

@@ -28,15 +28,15 @@ pub at_self : (k : Sym) (n : Option Sym) → n ≡ Some k → is_sym n k ≡ tru
 at_self k n e = rw e (same_self k)
 
 -- an outcome is read or a fault
-abbrev read_as : {A : Type 0} → A → State → Outcome A
+abbrev pub read_as : {A : Type 0} → A → State → Outcome A
 read_as x s = Ok (x, s)
 
-ok_value : {A : Type 0} (x y : A) (s t : State) → read_as x s ≡ Ok (y, t) → (x ≡ y) × (s ≡ t)
+pub ok_value : {A : Type 0} (x y : A) (s t : State) → read_as x s ≡ Ok (y, t) → (x ≡ y) × (s ≡ t)
 ok_value {A} x y s t e =
     let r = ok_same (x, s) (y, t) (Ok (x, s)) refl e in
     (ap (λ (read : A × State). read.0) r, ap (λ (read : A × State). read.1) r)
 
-no_ok : {A : Type 0} (f : Fault) (read : A × State) → Err f ≡ Ok read → ⊥
+pub no_ok : {A : Type 0} (f : Fault) (read : A × State) → Err f ≡ Ok read → ⊥
 no_ok f read e = cc
 
 -- one word of a kind

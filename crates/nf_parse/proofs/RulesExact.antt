@@ -1,5 +1,5 @@
 -- Rules, modules and files are read exactly.
-use Rattle.std.proofs.Common.{◌≡◌, ℕ, ◌<◌, ◌⊎◌, inl, inr, Bool, true, false, cond, List, [], refl, sym, ap, ◌∙◌, subst, arith, ⊎_elim, Option, Some, None, unwrap_or, Ok, Err}
+use Rattle.std.proofs.Common.{◌≡◌, ℕ, ◌<◌, ◌⊎◌, inl, inr, Bool, true, false, cond, List, [], is_some, refl, sym, ap, ◌∙◌, subst, arith, ⊎_elim, Option, Some, None, unwrap_or, Ok, Err}
 use Rattle.nf_core.specs.declared.trees.Expr.{Expr}
 use Rattle.nf_core.specs.declared.trees.Atom.{Atom}
 use Rattle.nf_core.specs.declared.trees.Body.{Body}
@@ -10,7 +10,7 @@ use Rattle.nf_core.specs.declared.trees.Module.{Module}
 use Rattle.nf_core.specs.declared.operators.Op.{Op}
 use Rattle.nf_parse.specs.declared.symbol.Sym.{Sym}
 use Rattle.nf_parse.specs.declared.symbol.Sym.TheVariants as kind
-use Rattle.nf_parse.specs.State.{State, next}
+use Rattle.nf_parse.specs.State.{Word, State, next}
 use Rattle.nf_parse.specs.Combinators.{Relation, Token, OneOf, Done, Then, After, Enclosed, Either, Optional, Separated, Repeated, Whole}
 use Rattle.nf_parse.specs.Grammar.{op_at, op_of, xop_of, atom_of, AtomWord, BodyWord, Expression, Paren, Clause, EntryWord, MapWord, RuleWord, Imports, ModuleWord, Item, loose, named, ItemWord, modules_of, File}
 use Rattle.nf_parse.specs.Parsers.{Outcome, Parser, and_then, done, is_sym, token, after, enclosed, whole, in_table}
@@ -19,6 +19,8 @@ use Rattle.nf_parse.specs.Parts.{one_of, choose, optional, repeated, next_part, 
 use Rattle.nf_parse.specs.RuleReading.{atom, pair, exclusive, is_op, ends_body, rule_body, imports, is_ident, clause, entry, entries, rule, rules, module_word, item, file}
 use Rattle.nf_parse.proofs.Exact.{always, whole_exact}
 use Rattle.nf_parse.proofs.ExpressionExact.{Ends, expression_exact}
+use Rattle.nf_parse.proofs.PartsRead.{IsReadingAlone, token_reading, next_shorter}
+use Rattle.nf_parse.proofs.RulesRead.{IsName, IsWrittenExpr, entry_reading, rule_shorter, item_shorter}
 use Rattle.nf_parse.proofs.PartsExact.{Next, IsExactPart, part_of, at_back, token_exact, done_exact, then_exact, one_of_exact, choose_exact, optional_exact, IsShorter, repeated_exact, separated_exact}
 
 -- what may stand behind a rule: nothing, a rule, a module or the end of one
@@ -152,10 +154,125 @@ body_exact = then_exact atom_exact (λ first. choose_exact (done_exact (bodies.O
     joins n (inr (inr e)) = rw e refl
 
 -- imports
-names_short : IsShorter (next_part kind.Comma (token kind.Ident))
-names_short = ?
+imports_shorter : IsShorter (next_part kind.Comma (token kind.Ident))
+imports_shorter = next_shorter 0 (λ word. Unit) kind.Comma (token_reading 0 (λ word. Unit) kind.Ident)
 
-pub imports_exact : IsExactPart imports Imports (λ n. n ≡ Some kind.Import) always
+pub imports_exact : (depth : ℕ) → IsExactPart imports (Imports depth) (λ n. n ≡ Some kind.Import) always
 unfolding imports
-imports_exact = after_exact kind.Import (then_exact (separated_exact {stop = λ n. n ≡ Some kind.Semicolon} (token_exact kind.Ident) names_short tt (λ n h. tt) (λ n e. rw e refl))
+imports_exact depth = after_exact kind.Import (then_exact (separated_exact {stop = λ n. n ≡ Some kind.Semicolon} (token_exact kind.Ident) imports_shorter tt (λ n h. tt) (λ n e. rw e refl))
     (λ names. after_exact kind.Semicolon (done_exact names always)) (λ n e. e))
+
+-- what any reading of an expression has to show for the parts above
+module _ (depth : ℕ) (fits : Word → Type 0) (names : (bytes : List ℕ) → fits (kind.Ident, bytes) → IsName bytes)
+  (alone : IsReadingAlone depth fits (expression (paren depth)) IsWrittenExpr) where
+  abbrev p : Parser Expr
+  p = expression (paren depth)
+
+  pub clause_exact : (k : Sym) → IsExactPart (clause p k) (Clause depth k) (λ n. n ≡ Some k) Ends
+  unfolding clause
+  clause_exact k = after_exact k (part_of (whole p) (Whole (Expression (Paren depth))) Ends (whole_exact p (Expression (Paren depth)) Ends (expression_exact depth)))
+
+  pub entry_exact : IsExactPart (entry p) (EntryWord depth) (λ n. n ≡ Some kind.Ident) Ends
+  unfolding entry
+  entry_exact = then_exact (token_exact kind.Ident) (λ key. then_exact (clause_exact kind.Arrow) (λ value. done_exact (record { key = key; value = value }) Ends) (λ n h. h)) (λ n h. tt)
+
+  -- behind the entries of a map
+  abbrev Closes : Next
+  Closes n = n ≡ Some kind.CloseBrace
+
+  closes_ends : (n : Option Sym) → Closes n → Ends n
+  unfolding op_at
+  closes_ends n e = subst Ends (sym e) (record { product = refl; sum = refl; compare = refl; conjunction = refl; expression = refl })
+
+  comma_ends : Ends (Some kind.Comma)
+  unfolding op_at
+  comma_ends = record { product = refl; sum = refl; compare = refl; conjunction = refl; expression = refl }
+
+  entry_shorter : IsShorter (next_part kind.Comma (entry p))
+  entry_shorter = next_shorter depth fits kind.Comma (entry_reading depth fits names p alone)
+
+  pub entries_exact : IsExactPart (entries p) (MapWord depth) (λ n. n ≡ Some kind.Map) always
+  unfolding entries
+  entries_exact = after_exact kind.Map (then_exact
+      (enclosed_exact kind.OpenBrace kind.CloseBrace (optional_exact {stop = Closes} (separated_exact {stop = Closes} entry_exact entry_shorter comma_ends closes_ends (λ n e. rw e refl)) (λ n e. e) (λ n e. e) (λ n e. rw e refl)) refl)
+      (λ found. done_exact (unwrap_or found []) always) (λ n h. tt))
+
+  pub rule_exact : IsExactPart (rule p) (RuleWord depth) (λ n. n ≡ Some kind.Ident) BehindRule
+  unfolding rule
+  rule_exact = then_exact (token_exact kind.Ident) (λ head. after_exact kind.Defines (then_exact body_exact (λ body.
+      then_exact (optional_exact {stop = BehindWhere} (clause_exact kind.Where) (λ n e. e) where_ends (where_all (Not kind.Where) refl refl refl refl refl refl refl)) (λ filter.
+      then_exact (optional_exact {stop = BehindMap} entries_exact (λ n e. e) (λ n h. tt) (map_all (Not kind.Map) refl refl refl refl refl refl)) (λ mapped.
+      then_exact (optional_exact {stop = BehindBegin} (clause_exact kind.Begin) (λ n e. e) begin_ends (begin_all (Not kind.Begin) refl refl refl refl refl)) (λ start.
+      then_exact (optional_exact {stop = BehindRule} (clause_exact kind.End) (λ n e. e) end_ends (rule_all (Not kind.End) refl refl refl refl)) (λ stop.
+      done_exact (record { head = head; body = body; filter = filter; entries = unwrap_or mapped []; start = start; stop = stop }) BehindRule)
+      (λ n h. h)) (λ n h. h)) (λ n h. h)) (λ n h. h)) (λ n h. h))) (λ n h. tt)
+
+  -- behind the rules of a module, and behind those of a file
+  abbrev Leaves : Next
+  Leaves n = (n ≡ None) ⊎ ((n ≡ Some kind.Module) ⊎ (n ≡ Some kind.CloseBrace))
+
+  leaves_rule : (n : Option Sym) → Leaves n → BehindRule n
+  leaves_rule n (inl e) = subst BehindRule (sym e) nothing
+  leaves_rule n (inr (inl e)) = subst BehindRule (sym e) module_next
+  leaves_rule n (inr (inr e)) = subst BehindRule (sym e) closing
+
+  leaves_ident : (n : Option Sym) → Leaves n → is_ident n ≡ false
+  leaves_ident n (inl e) = rw e refl
+  leaves_ident n (inr (inl e)) = rw e refl
+  leaves_ident n (inr (inr e)) = rw e refl
+
+  pub rules_exact : IsExactPart (rules p) (Repeated (RuleWord depth)) (λ n. (n ≡ Some kind.Ident) ⊎ Leaves n) Leaves
+  unfolding rules
+  rules_exact = repeated_exact rule_exact (rule_shorter depth fits names p alone) (λ n e. subst BehindRule (sym e) rule_next) leaves_rule (λ n e. rw e refl) leaves_ident
+
+  abbrev module_inner : Relation Module
+  module_inner = Then (Token kind.Ident) (λ name. Enclosed kind.OpenBrace kind.CloseBrace (Then (Optional (Imports depth)) (λ found. Then (Repeated (RuleWord depth)) (λ rules.
+      Done (record { name = Some name; imports = unwrap_or found []; rules = rules })))))
+
+  rules_import : (n : Option Sym) → Leaves n → Not kind.Import n
+  rules_import n (inl e) = rw e refl
+  rules_import n (inr (inl e)) = rw e refl
+  rules_import n (inr (inr e)) = rw e refl
+
+  -- what follows the imports of a module: its rules, or what leaves them
+  abbrev BehindImports : Next
+  BehindImports n = (n ≡ Some kind.Ident) ⊎ Leaves n
+
+  no_import : (n : Option Sym) → BehindImports n → Not kind.Import n
+  no_import n (inl e) = rw e refl
+  no_import n (inr h) = rules_import n h
+
+  pub module_exact : IsExactPart (module_word p) (ModuleWord depth) (λ n. n ≡ Some kind.Module) always
+  unfolding module_word
+  module_exact = after_exact kind.Module (then_exact (token_exact kind.Ident) (λ name. enclosed_exact {stop = Leaves} kind.OpenBrace kind.CloseBrace
+      (then_exact (optional_exact {stop = BehindImports} (imports_exact depth) (λ n e. e) (λ n h. tt) no_import) (λ found. then_exact rules_exact
+      (λ rules. done_exact (record { name = Some name; imports = unwrap_or found []; rules = rules }) Leaves) (λ n h. h)) (λ n h. h))
+      (inr (inr refl))) (λ n h. tt))
+
+  -- at the end of a file
+  abbrev AtEnd : Next
+  AtEnd n = n ≡ None
+
+  -- what an item begins with
+  abbrev Items : Next
+  Items n = (n ≡ Some kind.Ident) ⊎ (n ≡ Some kind.Module)
+
+  pub item_exact : IsExactPart (item p) (ItemWord depth) Items BehindRule
+  unfolding item
+  item_exact = choose_exact (then_exact rule_exact (λ r. done_exact (loose r) BehindRule) (λ n h. h)) (then_exact module_exact (λ m. done_exact (named m) BehindRule) (λ n h. tt))
+      (λ n e. rw e refl) (λ n e. rw e refl)
+
+  item_next : (n : Option Sym) → Items n → BehindRule n
+  item_next n (inl e) = subst BehindRule (sym e) rule_next
+  item_next n (inr e) = subst BehindRule (sym e) module_next
+
+  item_some : (n : Option Sym) → Items n → is_some n ≡ true
+  item_some n (inl e) = rw e refl
+  item_some n (inr e) = rw e refl
+
+  pub items_exact : IsExactPart (repeated is_some (item p)) (Repeated (ItemWord depth)) (λ n. Items n ⊎ AtEnd n) AtEnd
+  items_exact = repeated_exact item_exact (item_shorter depth fits names p alone) item_next (λ n e. subst BehindRule (sym e) nothing) item_some (λ n e. rw e refl)
+
+  pub file_exact : IsExactPart (file p) (File depth) (λ n. Items n ⊎ AtEnd n) AtEnd
+  unfolding file
+  file_exact = then_exact items_exact (λ items. done_exact (modules_of items) AtEnd) (λ n h. h)
