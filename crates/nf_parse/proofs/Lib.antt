@@ -8,3 +8,5 @@ pub mod Steps
 pub mod PartsRead
 pub mod RulesRead
 pub mod RulesExact
+pub mod PartsLarger
+pub mod RulesLarger
