@@ -10,3 +10,5 @@ pub mod RulesRead
 pub mod RulesExact
 pub mod PartsLarger
 pub mod RulesLarger
+pub mod Bytes
+pub mod PartLists

@@ -15,6 +15,8 @@ use Rattle.nf_parse.specs.declared.symbol.Sym.TheVariants as sym
 use Rattle.nf_parse.specs.State.{State, next}
 use Rattle.nf_parse.specs.Grammar.{op_of, xop_of, atom_of, Item, loose, named, modules_of}
 use Rattle.nf_parse.specs.Parsers.{Parser, and_then, done, is_sym, token, after, enclosed, whole, in_table}
+use Rattle.nf_parse.specs.Answers.{most_open}
+use Rattle.nf_parse.specs.Reading as reading
 use Rattle.nf_parse.specs.Parts.{one_of, choose, optional, repeated, separated}
 
 -- atom = IDENT [ ":" IDENT ]
@@ -84,3 +86,7 @@ module _ (expression : Parser Expr) where
   -- file = { rule | module }, up to the end of the words
   unfoldable pub file : Parser (List Module)
   file = and_then (repeated is_some item) (λ items. done (modules_of items))
+
+-- an expression with at most so many parentheses open at once as the limit is
+unfoldable pub limited : Parser Expr
+limited = reading.expression (reading.paren most_open)

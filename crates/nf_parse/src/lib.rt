@@ -8,6 +8,8 @@
 
 mod fault;
 mod level;
+mod literals;
+mod operators;
 mod parsing;
 mod reader;
 mod symbol;
