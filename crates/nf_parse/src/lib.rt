@@ -6,6 +6,8 @@
 //! a source spells, as trees of nf_core. The printer and the reader of whole specifications stand above it.
 #![tactic(auto)]
 
+mod clauses;
+mod expressions;
 mod fault;
 mod level;
 mod literals;
