@@ -12,3 +12,4 @@ pub mod PartsLarger
 pub mod RulesLarger
 pub mod Bytes
 pub mod PartLists
+pub mod PartSteps

@@ -4,7 +4,9 @@ use Rattle.std.proofs.lemmas.List.{append-nil}
 use Rattle.nf_parse.specs.declared.symbol.Sym.{Sym}
 use Rattle.nf_parse.specs.declared.fault.Fault.{Fault}
 use Rattle.nf_parse.specs.State.{Word, State, next, next_of}
-use Rattle.nf_parse.specs.Parsers.{Outcome, Parser, bind, and_then, is_sym}
+use Rattle.nf_parse.specs.declared.fault.Halt.{Halt}
+use Rattle.nf_parse.specs.declared.fault.Halt.TheVariants as halt
+use Rattle.nf_parse.specs.Parsers.{Outcome, Parser, bind, and_then, is_sym, Reads, IsWithin}
 use Rattle.nf_parse.specs.Parts.{in_list, repeated_from, repeated, next_part, separated}
 
 -- items that were found before those of an outcome
@@ -93,3 +95,11 @@ module _ {A : Type 0} (separator : Sym) (p : Parser A) where
   pub separated_stops : (s : State) (f : Fault) → p s ≡ Err f → separated separator p s ≡ Err f
   unfolding separated
   separated_stops s f e = ap (λ o. bind o (λ x s. in_list x (repeated (λ n. is_sym n separator) (next_part separator p) s))) e
+
+-- a call that stops as a part does, where the whole stops with the part
+pub stop_reads : {A B : Type 0} (o : Outcome A) (r : Outcome B) (h : Halt) (s t : State) → ((f : Fault) → o ≡ Err f → r ≡ Err f) → Reads o (Err h) s → Reads r (Err h) t
+stop_reads o r halt.NoMemory s t g e = tt
+stop_reads o r (halt.At f) s t g e = g f e
+
+pub within_more : (s t u : State) → IsWithin s t → IsWithin t u → IsWithin s u
+within_more s t u a b = record { words = omega arith; operators = omega arith }

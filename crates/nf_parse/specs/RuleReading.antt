@@ -39,9 +39,13 @@ is_op n = is_some (in_table op_of n)
 abbrev pub ends_body : Option Sym → Bool
 ends_body n = not (is_op n || is_sym n Unless)
 
+-- what stands behind the first atom of a body
+abbrev pub body_behind : Atom → Parser Body
+body_behind first = choose ends_body (done (body.One first)) (choose is_op (pair first) (exclusive first))
+
 -- body = atom | atom op atom | atom "unless" xop atom
 unfoldable pub rule_body : Parser Body
-rule_body = and_then atom (λ first. choose ends_body (done (body.One first)) (choose is_op (pair first) (exclusive first)))
+rule_body = and_then atom body_behind
 
 -- "import" IDENT { "," IDENT } ";"
 unfoldable pub imports : Parser (List (List ℕ))

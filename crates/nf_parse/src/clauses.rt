@@ -1,6 +1,6 @@
 //! The reader of the clauses of a rule.
 
-ghost use Rattle.std.specs.Prelude.{◌≡◌, ◌≤◌, ◌<◌, length, List, IfOk, OnOk, All, OnSome, IfSome};
+ghost use Rattle.std.specs.Prelude.{◌≡◌, ◌≤◌, ◌<◌, length, [], IfOk, OnOk, All, IfSome, unwrap_or};
 ghost use Rattle.nf_core.specs.Trees.{tree, IsWithinLimits};
 ghost use Rattle.nf_core.specs.declared.trees.Entry.{Entry};
 ghost use Rattle.nf_parse.specs.declared.symbol.Sym.TheVariants as sym;
@@ -14,7 +14,7 @@ use crate::fault::Halt;
 use crate::literals::name_of;
 use crate::reader::Reader;
 use crate::symbol::Sym;
-use nf_core::{Entry, EntryList, Expr};
+use nf_core::{Entry, EntryList, Expr, ListOf};
 use std::alloc::Global;
 
 /// How many parentheses may be open at once in an expression.
@@ -91,4 +91,80 @@ fn next_entry(alloc: Global, reader: &mut Reader<'_>) -> Result<Entry, Halt>
 {
     reader.skip(Sym::Comma)?;
     entry(alloc, reader)
+}
+
+/// Entries of a map with commas between them.
+
+fn entry_list(alloc: Global, reader: &mut Reader<'_>) -> Result<EntryList, Halt>
+    requires { reader.old.operators ≤ most_operators }
+    ensures reads { Reads (parts.separated sym.Comma (spec.entry spec.limited) reader.old) result reader.new }
+    ensures within { IsWithin reader.old reader.new }
+    ensures limits { IfOk result (All (λ (entry : Entry). IsWithinLimits (tree entry.value))) }
+{
+    let first = entry(alloc, reader)?;
+    let mut entries = EntryList::new(alloc);
+    entries.push(first)?;
+    'entries: while reader.is_at(Sym::Comma) {
+        let entry = next_entry(alloc, reader)?;
+        entries.push(entry)?;
+    }
+    Ok(entries)
+}
+
+/// The entries of a map, between braces.
+#[tactic(auto, unfolding(crate::specs::Parts::optional))]
+fn inner_entries(alloc: Global, reader: &mut Reader<'_>) -> Result<Option<EntryList>, Halt>
+    requires { reader.old.operators ≤ most_operators }
+    ensures reads { Reads (parts.optional sym.Ident (parts.separated sym.Comma (spec.entry spec.limited)) reader.old) result reader.new }
+    ensures within { IsWithin reader.old reader.new }
+    ensures limits { IfOk result (λ entries. IfSome entries (All (λ (entry : Entry). IsWithinLimits (tree entry.value)))) }
+{
+    if reader.is_at(Sym::Ident) {
+        Ok(Some(entry_list(alloc, reader)?))
+    } else {
+        Ok(None)
+    }
+}
+
+/// A list, where there is one, else an empty one.
+pub(crate) fn or_empty<T: Drop>(alloc: Global, list: Option<ListOf<T>>) -> ListOf<T>
+    ensures { result ≡ unwrap_or list [] }
+{
+    match list {
+        Some(list) => list,
+        None => ListOf::new(alloc),
+    }
+}
+
+/// A map: its entries between braces.
+#[tactic(auto, using(crate::proofs::PartSteps::all_or_empty), unfolding(crate::specs::RuleReading::entries))]
+fn entries(alloc: Global, reader: &mut Reader<'_>) -> Result<EntryList, Halt>
+    requires { reader.old.operators ≤ most_operators }
+    ensures reads { Reads (spec.entries spec.limited reader.old) result reader.new }
+    ensures within { IsWithin reader.old reader.new }
+    ensures limits { IfOk result (All (λ (entry : Entry). IsWithinLimits (tree entry.value))) }
+{
+    reader.skip(Sym::Map)?;
+    reader.skip(Sym::OpenBrace)?;
+    let entries = inner_entries(alloc, reader)?;
+    reader.skip(Sym::CloseBrace)?;
+    Ok(or_empty(alloc, entries))
+}
+
+/// A map, where one comes next.
+#[tactic(auto, unfolding(crate::specs::Parts::optional))]
+pub(crate) fn optional_entries(
+    alloc: Global,
+    reader: &mut Reader<'_>,
+) -> Result<Option<EntryList>, Halt>
+    requires { reader.old.operators ≤ most_operators }
+    ensures reads { Reads (parts.optional sym.Map (spec.entries spec.limited) reader.old) result reader.new }
+    ensures within { IsWithin reader.old reader.new }
+    ensures limits { IfOk result (λ entries. IfSome entries (All (λ (entry : Entry). IsWithinLimits (tree entry.value)))) }
+{
+    if reader.is_at(Sym::Map) {
+        Ok(Some(entries(alloc, reader)?))
+    } else {
+        Ok(None)
+    }
 }

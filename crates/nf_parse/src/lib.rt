@@ -14,6 +14,7 @@ mod literals;
 mod operators;
 mod parsing;
 mod reader;
+mod rules;
 mod symbol;
 mod symbols;
 
