@@ -13,3 +13,8 @@ pub mod RulesLarger
 pub mod Bytes
 pub mod PartLists
 pub mod PartSteps
+pub mod Loops
+pub mod Larger
+pub mod LargerExpressions
+pub mod Counted
+pub mod CountedExpressions

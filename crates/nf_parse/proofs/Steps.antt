@@ -1,8 +1,10 @@
 -- Single steps of the reader.
-use Rattle.std.proofs.Common.{◌≡◌, ◌<◌, ◌-◌, ℕ, zero, suc, true, false, List, [], ◌∷◌, length, refl, sym, ap, ◌∙◌, subst, arith, Some, None, Ok, Err}
+use Rattle.std.proofs.Common.{◌≡◌, ◌<◌, ◌-◌, ℕ, zero, suc, true, false, cond, List, [], ◌∷◌, length, refl, sym, ap, ◌∙◌, subst, arith, Some, None, Ok, Err}
 use Rattle.nf_parse.specs.declared.symbol.Sym.{Sym}
+use Rattle.nf_parse.specs.declared.symbol.Sym.TheVariants as kind
+use Rattle.nf_parse.specs.Reading.{expression, paren}
 use Rattle.nf_parse.specs.State.{Word, State, state, next, next_of}
-use Rattle.nf_parse.specs.Parsers.{Outcome, Parser, refuse, too_deep, is_at, bytes_of, tail_of, behind, token, use_up, operator}
+use Rattle.nf_parse.specs.Parsers.{Outcome, Parser, refuse, too_deep, is_at, bytes_of, tail_of, behind, token, use_up, operator, enclosed}
 
 pub token_read : (k : Sym) (s : State) → is_at k s ≡ true → token k s ≡ Ok (bytes_of s.words, behind s)
 unfolding token
@@ -43,3 +45,14 @@ some_words k (word ∷ words) h = omega arith
 
 pub next_some : (k : Sym) (s : State) → next s ≡ Some k → 0 < length s.words
 next_some k s h = some_words k s.words h
+
+pub paren_zero : (depth : ℕ) (s : State) → depth ≡ 0 → paren depth s ≡ cond (is_at kind.Open s) (too_deep s) (refuse s)
+unfolding paren
+paren_zero depth s h = rw h refl
+
+paren_suc : (depth : ℕ) (s : State) → paren (suc depth) s ≡ enclosed kind.Open kind.Close (expression (paren depth)) s
+unfolding paren
+paren_suc depth s = refl
+
+pub paren_some : (depth : ℕ) (s : State) → 0 < depth → paren depth s ≡ enclosed kind.Open kind.Close (expression (paren (depth - 1))) s
+paren_some depth s h = let e : suc (depth - 1) ≡ depth = omega arith in subst (λ d. paren d s ≡ enclosed kind.Open kind.Close (expression (paren (depth - 1))) s) e (paren_suc (depth - 1) s)
