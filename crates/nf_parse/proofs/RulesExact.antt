@@ -20,7 +20,7 @@ use Rattle.nf_parse.specs.RuleReading.{atom, pair, exclusive, is_op, ends_body, 
 use Rattle.nf_parse.proofs.Exact.{always, whole_exact}
 use Rattle.nf_parse.proofs.ExpressionExact.{Ends, expression_exact}
 use Rattle.nf_parse.proofs.PartsRead.{IsReadingAlone, token_reading, next_shorter}
-use Rattle.nf_parse.proofs.RulesRead.{IsName, IsWrittenExpr, entry_reading, rule_shorter, item_shorter}
+use Rattle.nf_parse.proofs.RulesRead.{entry_reading, rule_shorter, module_shorter, item_shorter}
 use Rattle.nf_parse.proofs.PartsExact.{Next, IsExactPart, part_of, at_back, token_exact, done_exact, then_exact, one_of_exact, choose_exact, optional_exact, IsShorter, repeated_exact, separated_exact}
 
 -- what may stand behind a rule: nothing, a rule, a module or the end of one
@@ -162,9 +162,8 @@ unfolding imports
 imports_exact depth = after_exact kind.Import (then_exact (separated_exact {stop = λ n. n ≡ Some kind.Semicolon} (token_exact kind.Ident) imports_shorter tt (λ n h. tt) (λ n e. rw e refl))
     (λ names. after_exact kind.Semicolon (done_exact names always)) (λ n e. e))
 
--- what any reading of an expression has to show for the parts above
-module _ (depth : ℕ) (fits : Word → Type 0) (names : (bytes : List ℕ) → fits (kind.Ident, bytes) → IsName bytes)
-  (alone : IsReadingAlone depth fits (expression (paren depth)) IsWrittenExpr) where
+-- what a reading of an expression has to show for the parts above
+module _ (depth : ℕ) (alone : IsReadingAlone depth (λ word. Unit) (expression (paren depth)) (λ x. Unit)) where
   abbrev p : Parser Expr
   p = expression (paren depth)
 
@@ -189,7 +188,13 @@ module _ (depth : ℕ) (fits : Word → Type 0) (names : (bytes : List ℕ) → 
   comma_ends = record { product = refl; sum = refl; compare = refl; conjunction = refl; expression = refl }
 
   entry_shorter : IsShorter (next_part kind.Comma (entry p))
-  entry_shorter = next_shorter depth fits kind.Comma (entry_reading depth fits names p alone)
+  entry_shorter = next_shorter depth (λ word. Unit) kind.Comma (entry_reading (λ bytes. Unit) (λ x. Unit) depth (λ word. Unit) (λ bytes h. tt) p alone)
+
+  pub short_rule : IsShorter (rule p)
+  short_rule = rule_shorter (λ bytes. Unit) (λ x. Unit) depth (λ word. Unit) (λ bytes h. tt) p alone
+
+  pub short_module : IsShorter (module_word p)
+  short_module = module_shorter (λ bytes. Unit) (λ x. Unit) depth (λ word. Unit) (λ bytes h. tt) p alone
 
   pub entries_exact : IsExactPart (entries p) (MapWord depth) (λ n. n ≡ Some kind.Map) always
   unfolding entries
@@ -223,7 +228,7 @@ module _ (depth : ℕ) (fits : Word → Type 0) (names : (bytes : List ℕ) → 
 
   pub rules_exact : IsExactPart (rules p) (Repeated (RuleWord depth)) (λ n. (n ≡ Some kind.Ident) ⊎ Leaves n) Leaves
   unfolding rules
-  rules_exact = repeated_exact rule_exact (rule_shorter depth fits names p alone) (λ n e. subst BehindRule (sym e) rule_next) leaves_rule (λ n e. rw e refl) leaves_ident
+  rules_exact = repeated_exact rule_exact short_rule (λ n e. subst BehindRule (sym e) rule_next) leaves_rule (λ n e. rw e refl) leaves_ident
 
   abbrev module_inner : Relation Module
   module_inner = Then (Token kind.Ident) (λ name. Enclosed kind.OpenBrace kind.CloseBrace (Then (Optional (Imports depth)) (λ found. Then (Repeated (RuleWord depth)) (λ rules.
@@ -271,7 +276,7 @@ module _ (depth : ℕ) (fits : Word → Type 0) (names : (bytes : List ℕ) → 
   item_some n (inr e) = rw e refl
 
   pub items_exact : IsExactPart (repeated is_some (item p)) (Repeated (ItemWord depth)) (λ n. Items n ⊎ AtEnd n) AtEnd
-  items_exact = repeated_exact item_exact (item_shorter depth fits names p alone) item_next (λ n e. subst BehindRule (sym e) nothing) item_some (λ n e. rw e refl)
+  items_exact = repeated_exact item_exact (item_shorter (λ bytes. Unit) (λ x. Unit) depth (λ word. Unit) (λ bytes h. tt) p alone) item_next (λ n e. subst BehindRule (sym e) nothing) item_some (λ n e. rw e refl)
 
   pub file_exact : IsExactPart (file p) (File depth) (λ n. Items n ⊎ AtEnd n) AtEnd
   unfolding file

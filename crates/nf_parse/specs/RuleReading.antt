@@ -13,7 +13,7 @@ use Rattle.nf_parse.specs.declared.symbol.Sym.{Sym}
 use Rattle.nf_parse.specs.declared.symbol.Sym.TheVariants.{Ident, Import, Where, Map, Begin, End, Unless, Defines, Arrow, OpenBrace, CloseBrace, Comma, Semicolon, Colon}
 use Rattle.nf_parse.specs.declared.symbol.Sym.TheVariants as sym
 use Rattle.nf_parse.specs.State.{State, next}
-use Rattle.nf_parse.specs.Grammar.{op_of, xop_of, atom_of, Item, loose, named, modules_of}
+use Rattle.nf_parse.specs.Grammar.{op_of, xop_of, atom_of, Item, loose, named, unnamed, modules_of}
 use Rattle.nf_parse.specs.Parsers.{Parser, and_then, done, is_sym, token, after, enclosed, whole, in_table}
 use Rattle.nf_parse.specs.Answers.{most_open}
 use Rattle.nf_parse.specs.Reading as reading
@@ -90,6 +90,10 @@ module _ (expression : Parser Expr) where
   -- file = { rule | module }, up to the end of the words
   unfoldable pub file : Parser (List Module)
   file = and_then (repeated is_some item) (λ items. done (modules_of items))
+
+-- a module with a name, or the rules here, as long as one follows another, as a module without name
+unfoldable pub part : Parser Expr → Parser Module
+part expression = choose is_ident (and_then (rules expression) (λ rules. done (unnamed rules))) (module_word expression)
 
 -- an expression with at most so many parentheses open at once as the limit is
 unfoldable pub limited : Parser Expr

@@ -11,6 +11,7 @@ mod expressions;
 mod fault;
 mod level;
 mod literals;
+mod modules;
 mod operators;
 mod parsing;
 mod reader;
