@@ -18,3 +18,4 @@ pub mod Larger
 pub mod LargerExpressions
 pub mod Counted
 pub mod CountedExpressions
+pub mod Limits
