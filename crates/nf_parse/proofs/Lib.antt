@@ -3,8 +3,16 @@ pub mod ChainExact
 pub mod UnaryExact
 pub mod PrimaryExact
 pub mod ExpressionExact
+pub mod PartsExact
 pub mod Steps
+pub mod PartsRead
+pub mod RulesRead
+pub mod RulesExact
+pub mod PartsLarger
+pub mod RulesLarger
 pub mod Bytes
+pub mod PartLists
+pub mod PartSteps
 pub mod Loops
 pub mod Larger
 pub mod LargerExpressions

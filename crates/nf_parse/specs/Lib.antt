@@ -4,3 +4,5 @@ pub mod Grammar
 pub mod Answers
 pub mod Parsers
 pub mod Reading
+pub mod Parts
+pub mod RuleReading

@@ -6,13 +6,16 @@
 //! a source spells, as trees of nf_core. The printer and the reader of whole specifications stand above it.
 #![tactic(auto)]
 
+mod clauses;
 mod expressions;
 mod fault;
 mod level;
 mod literals;
+mod modules;
 mod operators;
 mod parsing;
 mod reader;
+mod rules;
 mod symbol;
 mod symbols;
 

@@ -97,7 +97,7 @@ impl<'a> Reader<'a> {
     }
 
     /// The bytes of the next word, behind which the reader then stands; there has to be one.
-    fn advance(&mut self) -> &'a [u8]
+    pub(crate) fn advance(&mut self) -> &'a [u8]
         requires { 0 < length self.old.words }
         ensures bytes { result.now ≡ spec.bytes_of self.old.words }
         ensures behind { self.new ≡ spec.behind self.old }
