@@ -94,8 +94,9 @@ pub record IsPassed (depth operators : ℕ) (words : List Word) : Type 0 where
   pub runs : IsRun run
   pub past : (operators < count is_operator run) ⊎ (count is_close run + depth < count is_open run)
 
--- a source has tokens, and one of the limits is passed among their words
+-- a source has tokens, within the limits their words are no word of `file`, and one of the limits is passed among them
 pub record IsTooDeep (source : List ℕ) : Type 0 where
   pub tokens : List Token
   pub divides : Divides source 0 (Ok tokens)
+  pub none : (modules : List Module) → IsFileWithin most_open most_operators (words_of source tokens) modules → ⊥
   pub passed : IsPassed most_open most_operators (words_of source tokens)

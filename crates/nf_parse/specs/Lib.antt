@@ -6,3 +6,4 @@ pub mod Parsers
 pub mod Reading
 pub mod Parts
 pub mod RuleReading
+pub mod Parses
