@@ -20,3 +20,5 @@ pub mod Counted
 pub mod CountedExpressions
 pub mod Limits
 pub mod ExpressionRead
+pub mod FileLoop
+pub mod Files
