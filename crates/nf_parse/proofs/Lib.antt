@@ -14,7 +14,6 @@ pub mod Bytes
 pub mod PartLists
 pub mod PartSteps
 pub mod Loops
-pub mod Larger
 pub mod LargerExpressions
 pub mod Counted
 pub mod CountedExpressions
