@@ -19,3 +19,5 @@ pub mod Counted
 pub mod CountedExpressions
 pub mod Limits
 pub mod ExpressionRead
+pub mod FileLoop
+pub mod Files

@@ -37,22 +37,22 @@ module _ {A : Type 0} (test : Option Sym → Bool) (p : Parser A) where
   unfolding repeated
   list_start s = record { turns = length s.words; enough = omega arith; goes_on = none_before (repeated_from test p (length s.words) s) }
 
-  no_words : (test_none : test None ≡ false) (s : State) → test (next s) ≡ true → 0 < length s.words
+  pub no_words : (test_none : test None ≡ false) (s : State) → test (next s) ≡ true → 0 < length s.words
   no_words n s h = go s.words h
     where
       go : (ws : List Word) → test (next_of ws) ≡ true → 0 < length ws
       go [] h = let e = sym n ∙ h in cc
       go (w ∷ ws) h = omega arith
 
-  turn_read : (turns : ℕ) (s t : State) (x : A) → test (next s) ≡ true → p s ≡ Ok (x, t) → repeated_from test p (suc turns) s ≡ in_list x (repeated_from test p turns t)
+  pub turn_read : (turns : ℕ) (s t : State) (x : A) → test (next s) ≡ true → p s ≡ Ok (x, t) → repeated_from test p (suc turns) s ≡ in_list x (repeated_from test p turns t)
   unfolding repeated_from
   turn_read turns s t x h e = rw (h, e) refl
 
-  turn_stop : (turns : ℕ) (s : State) (f : Fault) → test (next s) ≡ true → p s ≡ Err f → repeated_from test p (suc turns) s ≡ Err f
+  pub turn_stop : (turns : ℕ) (s : State) (f : Fault) → test (next s) ≡ true → p s ≡ Err f → repeated_from test p (suc turns) s ≡ Err f
   unfolding repeated_from
   turn_stop turns s f h e = rw (h, e) refl
 
-  turn_end : (turns : ℕ) (s : State) → test (next s) ≡ false → repeated_from test p turns s ≡ Ok ([], s)
+  pub turn_end : (turns : ℕ) (s : State) → test (next s) ≡ false → repeated_from test p turns s ≡ Ok ([], s)
   unfolding repeated_from
   turn_end zero s h = refl
   turn_end (suc turns) s h = rw h refl

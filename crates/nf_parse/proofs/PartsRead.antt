@@ -10,7 +10,6 @@ use Rattle.nf_parse.specs.Answers.{IsPassed}
 use Rattle.nf_parse.specs.Parsers.{Outcome, Parser, behind, tail_of, bytes_of, bind, and_then, done, is_sym, is_at, refuse, token, after, enclosed, restored, whole, in_table, at_operator}
 use Rattle.nf_parse.specs.Parts.{one_of, choose, in_some, optional, in_list, repeated_from, repeated, next_part, separated}
 use Rattle.nf_parse.proofs.Exact.{same_is}
-use Rattle.nf_parse.proofs.Counted.{IsCounted, Counts}
 use Rattle.nf_parse.proofs.PartsExact.{read_as, ok_value, IsShorter}
 
 -- one state stands behind another one: some words later, with as many operators
@@ -311,27 +310,6 @@ module _ (depth : ℕ) (fits : Word → Type 0) where
     pub before : (s t : State) (x : A) → p s ≡ Ok (x, t) → (taken : List Word) × (s.words ≡ taken ++ t.words)
     pub given : (s t : State) (x : A) → p s ≡ Ok (x, t) → All fits s.words → Good x
     pub passed : (s : State) (n : ℕ) → p s ≡ Err (fault.TooDeep n) → IsPassed depth s.operators s.words
-
-  -- from what is counted
-  module _ {A : Type 0} (p : Parser A) (Good : A → Type 0) (counted : IsCounted depth p) (good : (s t : State) (x : A) → p s ≡ Ok (x, t) → All fits s.words → Good x) where
-    ran_is : (s t : State) (x : A) (o : Outcome A) → Counts depth s o → o ≡ Ok (x, t) → (taken : List Word) × (s.words ≡ taken ++ t.words)
-    ran_is s t x (Ok read) c e = let g = ok_value read.0 x read.1 t e in (c.run, c.is ∙ ap (λ (u : State). c.run ++ u.words) g.1)
-    ran_is s t x (Err f) c e = absurd (no_read f x t e)
-
-    past_is : (s : State) (n : ℕ) (o : Outcome A) → Counts depth s o → o ≡ Err (fault.TooDeep n) → IsPassed depth s.operators s.words
-    past_is s n (Ok read) c e = absurd (ok_deep read.0 read.1 n e)
-    past_is s n (Err (fault.Grammar m)) c e = absurd (grammar_deep m n e)
-      where
-        grammar_deep : (m n : ℕ) → stopped A (fault.Grammar m) ≡ Err (fault.TooDeep n) → ⊥
-        grammar_deep m n e = cc
-    past_is s n (Err (fault.TooDeep m)) c e = record { before = []; run = c.run; after = c.after; is = c.is; runs = c.runs; past = c.past }
-
-    pub alone_of : IsReadingAlone p Good
-    alone_of = record {
-      before = λ s t x e. ran_is s t x (p s) (counted.counts s) e;
-      given = good;
-      passed = λ s n e. past_is s n (p s) (counted.counts s) e;
-    }
 
   module _ {A : Type 0} {p : Parser A} {Good : A → Type 0} (part : IsReadingAlone p Good) where
     whole_is : (s t : State) (x : A) (o : Outcome A) → p s ≡ o → restored s.operators o ≡ Ok (x, t) → IsBehind s t × (All fits s.words → Good x)

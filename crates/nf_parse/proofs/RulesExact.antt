@@ -16,9 +16,11 @@ use Rattle.nf_parse.specs.Grammar.{op_at, op_of, xop_of, atom_of, AtomWord, Body
 use Rattle.nf_parse.specs.Parsers.{Outcome, Parser, and_then, done, is_sym, token, after, enclosed, whole, in_table}
 use Rattle.nf_parse.specs.Reading.{expression, paren}
 use Rattle.nf_parse.specs.Parts.{one_of, choose, optional, repeated, next_part, separated}
-use Rattle.nf_parse.specs.RuleReading.{atom, pair, exclusive, is_op, ends_body, rule_body, imports, is_ident, clause, entry, entries, rule, rules, module_word, item, file}
+use Rattle.nf_parse.specs.Answers.{most_open}
+use Rattle.nf_parse.specs.RuleReading.{atom, pair, exclusive, is_op, ends_body, rule_body, imports, is_ident, clause, entry, entries, rule, rules, module_word, item, file, limited}
 use Rattle.nf_parse.proofs.Exact.{always, whole_exact}
 use Rattle.nf_parse.proofs.ExpressionExact.{Ends, expression_exact}
+use Rattle.nf_parse.proofs.ExpressionRead.{expression_before, expression_passed}
 use Rattle.nf_parse.proofs.PartsRead.{IsReadingAlone, token_reading, next_shorter}
 use Rattle.nf_parse.proofs.RulesRead.{entry_reading, rule_shorter, module_shorter, item_shorter}
 use Rattle.nf_parse.proofs.PartsExact.{Next, IsExactPart, part_of, at_back, token_exact, done_exact, then_exact, one_of_exact, choose_exact, optional_exact, IsShorter, repeated_exact, separated_exact}
@@ -162,8 +164,14 @@ unfolding imports
 imports_exact depth = after_exact kind.Import (then_exact (separated_exact {stop = λ n. n ≡ Some kind.Semicolon} (token_exact kind.Ident) imports_shorter tt (λ n h. tt) (λ n e. rw e refl))
     (λ names. after_exact kind.Semicolon (done_exact names always)) (λ n e. e))
 
--- what a reading of an expression has to show for the parts above
-module _ (depth : ℕ) (alone : IsReadingAlone depth (λ word. Unit) (expression (paren depth)) (λ x. Unit)) where
+-- an expression goes forward
+pub alone_at : (depth : ℕ) → IsReadingAlone depth (λ word. Unit) (expression (paren depth)) (λ x. Unit)
+alone_at depth = record { before = expression_before depth; given = λ s t x e h. tt; passed = λ s n e. expression_passed depth s n e }
+
+module _ (depth : ℕ) where
+  alone : IsReadingAlone depth (λ word. Unit) (expression (paren depth)) (λ x. Unit)
+  alone = alone_at depth
+
   abbrev p : Parser Expr
   p = expression (paren depth)
 
@@ -195,6 +203,9 @@ module _ (depth : ℕ) (alone : IsReadingAlone depth (λ word. Unit) (expression
 
   pub short_module : IsShorter (module_word p)
   short_module = module_shorter (λ bytes. Unit) (λ x. Unit) depth (λ word. Unit) (λ bytes h. tt) p alone
+
+  pub short_item : IsShorter (item p)
+  short_item = item_shorter (λ bytes. Unit) (λ x. Unit) depth (λ word. Unit) (λ bytes h. tt) p alone
 
   pub entries_exact : IsExactPart (entries p) (MapWord depth) (λ n. n ≡ Some kind.Map) always
   unfolding entries
@@ -281,3 +292,8 @@ module _ (depth : ℕ) (alone : IsReadingAlone depth (λ word. Unit) (expression
   pub file_exact : IsExactPart (file p) (File depth) (λ n. Items n ⊎ AtEnd n) AtEnd
   unfolding file
   file_exact = then_exact items_exact (λ items. done_exact (modules_of items) AtEnd) (λ n h. h)
+
+-- the reader of expressions within the limits takes a word at least in each rule
+pub limited_shorter : IsShorter (rule limited)
+unfolding limited
+limited_shorter = short_rule most_open

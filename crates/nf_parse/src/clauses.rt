@@ -14,7 +14,7 @@ use crate::fault::Halt;
 use crate::literals::name_of;
 use crate::reader::Reader;
 use crate::symbol::Sym;
-use nf_core::{Entry, EntryList, Expr, ListOf};
+use nf_core::{Entry, EntryList, Expr, ListOf, trees_by_parts};
 use std::alloc::Global;
 
 /// How many parentheses may be open at once in an expression.
@@ -28,6 +28,7 @@ fn whole(alloc: Global, reader: &mut Reader<'_>) -> Result<Expr, Halt>
     ensures within { IsWithin reader.old reader.new }
     ensures limits { IfOk result (λ x. IsWithinLimits (tree x)) }
 {
+    trees_by_parts();
     let operators = reader.operators();
     let x = expression(alloc, MOST_OPEN, reader)?;
     reader.allow(operators);
