@@ -50,14 +50,14 @@ number_kind Keyword w h = absurd (not_in kind.Number (λ e. cc) keywords refl w 
 number_kind Mark w h = absurd (not_in kind.Number (λ e. cc) marks refl w (sym h))
 number_kind t w h = cc
 
-text_kind : (t : TokenKind) (w : List ℕ) → kind.Text ≡ sym_of t w → t ≡ Text
+pub text_kind : (t : TokenKind) (w : List ℕ) → kind.Text ≡ sym_of t w → t ≡ Text
 unfolding sym_of
 text_kind Text w h = refl
 text_kind Keyword w h = absurd (not_in kind.Text (λ e. cc) keywords refl w (sym h))
 text_kind Mark w h = absurd (not_in kind.Text (λ e. cc) marks refl w (sym h))
 text_kind t w h = cc
 
-ident_kind : (t : TokenKind) (w : List ℕ) → kind.Ident ≡ sym_of t w → t ≡ Ident
+pub ident_kind : (t : TokenKind) (w : List ℕ) → kind.Ident ≡ sym_of t w → t ≡ Ident
 unfolding sym_of
 ident_kind Ident w h = refl
 ident_kind Keyword w h = absurd (not_in kind.Ident (λ e. cc) keywords refl w (sym h))

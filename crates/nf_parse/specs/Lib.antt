@@ -7,3 +7,4 @@ pub mod Reading
 pub mod Parts
 pub mod RuleReading
 pub mod Parses
+pub mod FileReading

@@ -10,14 +10,17 @@ mod clauses;
 mod expressions;
 mod fault;
 mod level;
+mod laws;
 mod literals;
 mod modules;
 mod operators;
 mod parsing;
+mod places;
 mod reader;
 mod rules;
 mod symbol;
 mod symbols;
 
 pub use fault::ParseFault;
+pub use laws::{every_source_is_answered, one_reading};
 pub use parsing::parse;
