@@ -21,3 +21,4 @@ pub mod Limits
 pub mod ExpressionRead
 pub mod FileLoop
 pub mod Files
+pub mod RuleCounts
