@@ -21,9 +21,9 @@ use Rattle.nf_parse.specs.RuleReading.{item, file}
 use Rattle.nf_parse.proofs.PartsExact.{IsShorter, ok_value}
 use Rattle.nf_parse.proofs.PartsRead.{IsBehind, IsReading, IsReadingAlone}
 use Rattle.nf_parse.proofs.Limits.{IsByParts}
-use Rattle.nf_parse.proofs.LargerExpressions.{expression_extends}
+use Rattle.nf_parse.proofs.LargerExpressions.{expression_larger}
 use Rattle.nf_parse.proofs.ExpressionRead.{expression_before, expression_passed, IsWord, expression_written}
-use Rattle.nf_parse.proofs.PartsLarger.{plus, IsSame, IsLarger, larger_of}
+use Rattle.nf_parse.proofs.PartsLarger.{IsSame, IsLarger}
 use Rattle.nf_parse.proofs.RulesLarger.{file_larger}
 use Rattle.nf_parse.proofs.RulesRead.{IsGoodRule, IsWrittenModule, file_reading}
 use Rattle.nf_parse.proofs.RulesExact.{file_exact, short_item, alone_at}
@@ -92,32 +92,32 @@ module _ (depth : ℕ) where
 -- larger limits
 module _ (depth more : ℕ) where
   larger : IsLarger (reading depth) (reading (depth + more))
-  larger = file_larger (larger_of (expression (paren depth)) (expression (paren (depth + more))) (expression_extends more depth))
+  larger = file_larger (expression_larger more depth)
 
-  pub file_larger_read : (n m : ℕ) (ws : List Word) (modules : List Module) → IsFileWithin depth n ws modules → reading (depth + more) (state (m + n) ws) ≡ Ok (modules, state (m + n) [])
+  pub file_larger_read : (n m : ℕ) (ws : List Word) (modules : List Module) → IsFileWithin depth n ws modules → reading (depth + more) (state (n + m) ws) ≡ Ok (modules, state (n + m) [])
   unfolding IsSame
-  file_larger_read n m ws modules r = subst (λ o. IsSame m o (reading (depth + more) (state (m + n) ws))) (file_read depth n ws modules r) (larger.same m (state n ws))
+  file_larger_read n m ws modules r = subst (λ o. IsSame m o (reading (depth + more) (state (n + m) ws))) (file_read depth n ws modules r) (larger.same m (state n ws))
 
-  pub file_larger_refused : (n m k : ℕ) (ws : List Word) → reading depth (state n ws) ≡ Err (fault.Grammar k) → reading (depth + more) (state (m + n) ws) ≡ Err (fault.Grammar k)
+  pub file_larger_refused : (n m k : ℕ) (ws : List Word) → reading depth (state n ws) ≡ Err (fault.Grammar k) → reading (depth + more) (state (n + m) ws) ≡ Err (fault.Grammar k)
   unfolding IsSame
-  file_larger_refused n m k ws e = subst (λ o. IsSame m o (reading (depth + more) (state (m + n) ws))) e (larger.same m (state n ws))
+  file_larger_refused n m k ws e = subst (λ o. IsSame m o (reading (depth + more) (state (n + m) ws))) e (larger.same m (state n ws))
 
 -- the same limits in another order
-other_read : (d e n m : ℕ) (ws : List Word) (modules : List Module) → IsFileWithin e m ws modules → reading (d + e) (state (m + n) ws) ≡ Ok (modules, state (m + n) [])
+other_read : (d e n m : ℕ) (ws : List Word) (modules : List Module) → IsFileWithin e m ws modules → reading (d + e) (state (n + m) ws) ≡ Ok (modules, state (n + m) [])
 other_read d e n m ws modules r =
     let i : e + d ≡ d + e = omega arith in
-    let j : n + m ≡ m + n = omega arith in
-    subst (λ k. reading k (state (m + n) ws) ≡ Ok (modules, state (m + n) [])) i (subst (λ k. reading (e + d) (state k ws) ≡ Ok (modules, state k [])) j (file_larger_read e d m n ws modules r))
+    let j : m + n ≡ n + m = omega arith in
+    subst (λ k. reading k (state (n + m) ws) ≡ Ok (modules, state (n + m) [])) i (subst (λ k. reading (e + d) (state k ws) ≡ Ok (modules, state k [])) j (file_larger_read e d m n ws modules r))
 
 -- words are one file at most, whatever the limits are
 pub one_file : (d e n m : ℕ) (ws : List Word) (a b : List Module) → IsFileWithin d n ws a → IsFileWithin e m ws b → a ≡ b
-one_file d e n m ws a b r q = (ok_value a b (state (m + n) []) (state (m + n) []) (sym (file_larger_read d e n m ws a r) ∙ other_read d e n m ws b q)).0
+one_file d e n m ws a b r q = (ok_value a b (state (n + m) []) (state (n + m) []) (sym (file_larger_read d e n m ws a r) ∙ other_read d e n m ws b q)).0
 
 -- where the words are refused as no file, they are none whatever the limits are
 pub no_file : (d e n m k : ℕ) (ws : List Word) (modules : List Module) → reading d (state n ws) ≡ Err (fault.Grammar k) → IsFileWithin e m ws modules → ⊥
-no_file d e n m k ws modules f r = apart (reading (d + e) (state (m + n) ws)) (file_larger_refused d e n m k ws f) (other_read d e n m ws modules r)
+no_file d e n m k ws modules f r = apart (reading (d + e) (state (n + m) ws)) (file_larger_refused d e n m k ws f) (other_read d e n m ws modules r)
   where
-    apart : (o : Outcome (List Module)) → o ≡ Err (fault.Grammar k) → o ≡ Ok (modules, state (m + n) []) → ⊥
+    apart : (o : Outcome (List Module)) → o ≡ Err (fault.Grammar k) → o ≡ Ok (modules, state (n + m) []) → ⊥
     apart o a b = cc
 
 -- the modules of written words can be written

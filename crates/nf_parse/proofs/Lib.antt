@@ -22,3 +22,4 @@ pub mod ExpressionRead
 pub mod FileLoop
 pub mod Files
 pub mod Answered
+pub mod RuleCounts

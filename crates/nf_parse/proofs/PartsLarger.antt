@@ -5,12 +5,11 @@ use Rattle.nf_parse.specs.declared.fault.Fault.{Fault}
 use Rattle.nf_parse.specs.declared.fault.Fault.TheVariants as fault
 use Rattle.nf_parse.specs.State.{Word, State, state, next}
 use Rattle.nf_parse.specs.Parsers.{Outcome, Parser, behind, bytes_of, bind, and_then, done, is_sym, is_at, refuse, token, after, enclosed, restored, whole, in_table, at_operator}
-use Rattle.nf_parse.proofs.Larger.{Extends, Same}
 use Rattle.nf_parse.specs.Parts.{one_of, choose, in_some, optional, in_list, repeated_from, repeated, next_part, separated}
 
 -- the state where so many operators more may be read
 abbrev pub plus : ℕ → State → State
-plus m s = state (m + s.operators) s.words
+plus m s = state (s.operators + m) s.words
 
 -- the second outcome is that of the first with so many operators more, unless the first passed a limit
 unfoldable pub IsSame : {A : Type 0} → ℕ → Outcome A → Outcome A → Type 0
@@ -46,16 +45,6 @@ one_of_larger {A} table = record { same = λ m s. go m s (in_table table (next s
     go : (m : ℕ) (s : State) (o : Option A) → IsSame m (at_operator o refuse (λ y t. Ok (y, behind t)) s) (at_operator o refuse (λ y t. Ok (y, behind t)) (plus m s))
     go m s (Some x) = refl
     go m s None = refl
-
--- where the parsers of expressions are larger
-same_of : {A : Type 0} (m : ℕ) (o r : Outcome A) → Same m o r → IsSame m o r
-unfolding IsSame
-same_of m (Ok read) r h = h
-same_of m (Err (fault.Grammar n)) r h = h
-same_of m (Err (fault.TooDeep n)) r h = h
-
-pub larger_of : {A : Type 0} (p q : Parser A) → Extends p q → IsLarger p q
-larger_of p q f = record { same = λ m s. same_of m (p s) (q (plus m s)) (f.same m s) }
 
 -- one part after another
 bind_same : {A B : Type 0} (k l : A → Parser B) (m : ℕ) (o r : Outcome A) → IsSame m o r → ((x : A) → IsLarger (k x) (l x)) → IsSame m (bind o k) (bind r l)
@@ -135,7 +124,7 @@ module _ {A : Type 0} {p q : Parser A} (separator : Sym) (part : IsLarger p q) w
 
 -- an expression by itself
 module _ {A : Type 0} {p q : Parser A} (part : IsLarger p q) where
-  whole_same : (n m : ℕ) (o r : Outcome A) → IsSame m o r → IsSame m (restored n o) (restored (m + n) r)
+  whole_same : (n m : ℕ) (o r : Outcome A) → IsSame m o r → IsSame m (restored n o) (restored (n + m) r)
   unfolding IsSame
   whole_same n m (Ok read) r h = rw h refl
   whole_same n m (Err (fault.Grammar k)) r h = rw h refl
