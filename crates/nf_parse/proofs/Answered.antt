@@ -1,40 +1,24 @@
 -- The answers to a source.
-use Rattle.std.proofs.Common.{Bool, true, false, cond, ◌≡◌, ◌≢◌, ◌≤◌, ◌<◌, ◌+◌, ◌-◌, ◌⊎◌, ◌↔◌, inl, inr, ℕ, zero, suc, pos, List, [], ◌∷◌, length, map, refl, sym, ap, ◌∙◌, subst, arith, ⊎_elim, Option, Some, None, Result, Ok, Err, IfOk, IsTrue}
-use Rattle.std.specs.Prelude.{flat_map}
-use Rattle.std.specs.List.{All}
-use Rattle.std.specs.Str.Parse.{digits_value}
-use Rattle.std.proofs.Math.Dec.{le→leb}
-use Rattle.std.proofs.lemmas.List.Elements.{All-map, All-weaker}
-use Rattle.nf_core.specs.Texts.{int_greatest}
-use Rattle.nf_core.specs.Identifiers.{is_identifier}
-use Rattle.nf_core.specs.Trees.{IsWritten, IsWrittenText}
+use Rattle.std.proofs.Common.{Bool, true, false, cond, ◌≡◌, ◌+◌, ◌⊎◌, inl, inr, ℕ, List, refl, ap, subst, Some, None, Result, Ok, Err}
 use Rattle.nf_core.specs.declared.trees.Module.{Module}
 use Rattle.nf_lex.specs.declared.token.Token.{Token}
 use Rattle.nf_lex.specs.declared.token.TokenKind.{TokenKind}
 use Rattle.nf_lex.specs.declared.token.TokenKind.TheVariants as tokens
 use Rattle.nf_lex.specs.declared.fault.LexFault.{LexFault}
 use Rattle.nf_lex.specs.declared.fault.LexFault.TheVariants as lex
-use Rattle.nf_lex.specs.Words.{kind_of}
-use Rattle.nf_lex.specs.Faults.{fault_of, body_of, missing_at, IsFault, faulty, missing}
+use Rattle.nf_lex.specs.Faults.{fault_of, missing_at, IsFault, faulty, missing}
 use Rattle.nf_lex.specs.Division.{Answer, Divides, ends, skips, takes, fails, in_front}
-use Rattle.nf_lex.specs.Layout.{IsTokenOf, AreLaidOut, end, next, text_of}
-use Rattle.nf_parse.specs.declared.fault.Fault.{Fault}
 use Rattle.nf_parse.specs.declared.fault.Fault.TheVariants as stop
 use Rattle.nf_parse.specs.declared.fault.ParseFault.{ParseFault}
 use Rattle.nf_parse.specs.declared.fault.ParseFault.TheVariants as fault
-use Rattle.nf_parse.specs.declared.symbol.Sym.TheVariants as kind
-use Rattle.nf_parse.specs.State.{Word, State, state, words_of, word_of}
+use Rattle.nf_parse.specs.State.{State, state, words_of}
 use Rattle.nf_parse.specs.Answers.{most_open, most_operators, IsFileWithin, Spells, HasNoModules, IsTooDeep}
 use Rattle.nf_parse.specs.Parses as parses
 use Rattle.nf_parse.specs.Parses.{Parses, settled}
-use Rattle.nf_parse.specs.Parsers.{Outcome, IsSound}
-use Rattle.nf_parse.specs.RuleReading.{file, limited}
+use Rattle.nf_parse.specs.Parsers.{Outcome}
+use Rattle.nf_parse.specs.RuleReading.{limited}
 use Rattle.nf_parse.specs.FileReading.{outcome_of, Answers}
-use Rattle.nf_parse.proofs.Bytes.{number_small, text_kind, ident_kind}
-use Rattle.nf_parse.proofs.ExpressionRead.{IsWord}
-use Rattle.nf_parse.proofs.Limits.{IsByParts}
-use Rattle.nf_parse.proofs.Files.{reading, file_is, file_read, file_passed, one_file, no_file, file_written}
-use Rattle.nf_parse.proofs.RuleCounts.{rules_of, file_rules}
+use Rattle.nf_parse.proofs.Files.{reading, file_is, file_read, file_passed, one_file, no_file}
 
 -- no division ends for want of memory
 chosen : (b : Bool) (g f : LexFault) → (g ≡ lex.NoMemory → ⊥) → cond b None (Some g) ≡ Some f → f ≡ lex.NoMemory → ⊥
@@ -108,7 +92,7 @@ every_answer source (Ok found) d = some_answer source found d
 every_answer source (Err f) d = (Err (fault.Lex f), parses.lexical d)
 
 -- two answers are alike
-abbrev IsOneDivision : Type 0
+abbrev pub IsOneDivision : Type 0
 IsOneDivision = (source : List ℕ) (place : ℕ) (a b : Answer) → Divides source place a → Divides source place b → a ≡ b
 
 module _ (one : IsOneDivision) (source : List ℕ) where

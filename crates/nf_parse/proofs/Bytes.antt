@@ -1,8 +1,8 @@
 -- What the kind of a word says of its bytes.
 use Rattle.std.specs.Map.{lookup}
-use Rattle.std.proofs.Common.{◌≡◌, ◌≤◌, ◌+◌, All, unwrap_or, ◌<◌, ◌^◌, ℕ, zero, suc, Bool, true, false, cond, not, ltb, ◌&&◌, List, [], ◌∷◌, length, drop, get_or, refl, sym, ap, ◌∙◌, subst, arith, rules, Option, Some, None, Result, Ok, Err, ℤ, pos, to_z, of_z, IsUtf8, bytes_eq}
+use Rattle.std.proofs.Common.{◌≡◌, ◌≤◌, ◌+◌, All, unwrap_or, ◌<◌, ◌^◌, ℕ, Bool, true, false, cond, not, ltb, ◌&&◌, List, [], ◌∷◌, length, drop, get_or, refl, sym, ap, ◌∙◌, subst, arith, rules, Option, Some, None, Result, Ok, Err, ℤ, pos, to_z, of_z, IsUtf8, bytes_eq}
 use Rattle.std.specs.Char.{is_ascii_digit}
-use Rattle.std.specs.Str.{is_utf8, IsAscii}
+use Rattle.std.specs.Str.{is_utf8}
 use Rattle.std.specs.List.{list_all, position_or_len}
 use Rattle.std.specs.Result.{OkIff}
 use Rattle.std.specs.Str.Parse.{digits_value, ParsesSigned}

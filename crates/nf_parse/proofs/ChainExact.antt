@@ -1,14 +1,14 @@
 -- Operators between operands read what their relations have.
-use Rattle.std.proofs.Common.{◌≡◌, ◌≤◌, ℕ, zero, suc, Bool, true, false, List, [], ◌∷◌, refl, sym, ap, ◌∙◌, subst, arith, Option, Some, None, Ok, Err}
+use Rattle.std.proofs.Common.{◌≡◌, ◌≤◌, ℕ, zero, suc, refl, ap, ◌∙◌, subst, arith, Option, Some, None, Ok}
 use Rattle.nf_core.specs.declared.operators.BinOp.{BinOp}
 use Rattle.nf_core.specs.declared.trees.Expr.{Expr}
 use Rattle.nf_core.specs.declared.trees.Expr.TheVariants as node
 use Rattle.nf_parse.specs.declared.symbol.Sym.{Sym}
 use Rattle.nf_parse.specs.State.{State, next}
 use Rattle.nf_parse.specs.Combinators.{Relation, Operator, Chain, Single, one, more, alone, pair}
-use Rattle.nf_parse.specs.Parsers.{Outcome, Parser, bind, and_then, done, too_deep, operator, in_table, at_operator}
+use Rattle.nf_parse.specs.Parsers.{Parser, and_then, done, too_deep, operator, in_table, at_operator}
 use Rattle.nf_parse.specs.Reading.{chain_from, chain, single}
-use Rattle.nf_parse.proofs.Exact.{IsExact, IsSpending, ok_same, bound, then_is, operator_sound, operator_complete, operator_next, Found, found}
+use Rattle.nf_parse.proofs.Exact.{IsExact, IsSpending, ok_same, bound, then_is, operator_sound, operator_complete, operator_next, found}
 
 module _ (table : Sym → Option BinOp) (p : Parser Expr) (R : Relation Expr) (stop : Option Sym → Type 0) (f : IsExact p R stop) where
   -- an operator and its right operand were read
@@ -35,14 +35,13 @@ module _ (table : Sym → Option BinOp) (p : Parser Expr) (R : Relation Expr) (s
   from_sound zero s u t l x c e = turn_sound s u t l x (λ o. too_deep) c (λ o h e. cc) e
   from_sound (suc turns) s u t l x c e = turn_sound s u t l x (λ o. and_then operator (λ word. and_then p (λ right. chain_from table p turns (node.Bin o l right)))) c
       (λ o h e. let r = right_sound s u t l x o (λ right. chain_from table p turns (node.Bin o l right)) h e in
-          from_sound turns s r.1 t (node.Bin o l r.2) x (more c r.3.1 r.3.2 r.4) r.5) e
+      from_sound turns s r.1 t (node.Bin o l r.2) x (more c r.3.1 r.3.2 r.4) r.5) e
 
   chain_sound : (s t : State) (x : Expr) → chain table p s ≡ Ok (x, t) → Chain table R s x t
   unfolding chain
   chain_sound s t x e =
       let a = bound (p s) (λ left u. chain_from table p u.operators left u) x t e in
       from_sound a.middle.operators s a.middle t a.given x (one (f.sound s a.middle a.given a.first)) a.rest
-
 
   -- where no operator of the table comes next, the chain ends
   from_done : (turns : ℕ) (x : Expr) (t : State) → in_table table (next t) ≡ None → chain_from table p turns x t ≡ Ok (x, t)

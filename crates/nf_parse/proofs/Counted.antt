@@ -1,14 +1,13 @@
 -- What parsers of expressions go past is a run of an expression with the operators that they used up, and what passes a limit stands behind a run that does.
-use Rattle.std.proofs.Common.{◌≡◌, ◌≤◌, ◌<◌, ◌+◌, ◌⊎◌, inl, inr, ℕ, zero, suc, Bool, true, false, cond, List, [], ◌∷◌, ◌++◌, length, refl, sym, ap, ◌∙◌, subst, arith, Option, Some, None, Ok, Err, ⊎_elim, count_by, append_assoc}
+use Rattle.std.proofs.Common.{◌≡◌, ◌≤◌, ◌<◌, ◌+◌, ◌⊎◌, inl, inr, ℕ, zero, suc, Bool, true, false, cond, List, [], ◌∷◌, ◌++◌, refl, sym, ap, ◌∙◌, subst, arith, Option, Some, None, Ok, Err, ⊎_elim, append_assoc}
 use Rattle.std.proofs.lemmas.List.Sums.{sum_by-append}
 use Rattle.nf_parse.specs.declared.fault.Fault.TheVariants as fault
 use Rattle.nf_parse.specs.declared.symbol.Sym.{Sym}
-use Rattle.nf_parse.specs.declared.symbol.Sym.TheVariants as kind
 use Rattle.nf_parse.specs.State.{Word, State, state, next, next_of}
-use Rattle.nf_parse.specs.Combinators.{Token, Operator}
+use Rattle.nf_parse.specs.Combinators.{Token}
 use Rattle.nf_parse.specs.Answers as answers
 use Rattle.nf_parse.specs.Answers.{is_operator, is_operand, is_open, is_close, is_time, count, IsRun}
-use Rattle.nf_parse.specs.Parsers.{Outcome, Parser, bind, and_then, done, refuse, too_deep, is_sym, is_at, bytes_of, tail_of, token, use_up, operator, at_operator}
+use Rattle.nf_parse.specs.Parsers.{Outcome, Parser, bind, refuse, is_at, bytes_of, tail_of, token, use_up, operator, at_operator}
 use Rattle.nf_parse.proofs.Exact.{token_exact, ok_same}
 
 -- a run of an expression stands from one state up to a later one, with as many operators as were used up, and it closes what it opens
@@ -114,9 +113,11 @@ operand_ran k i s t bytes r = record {
 }
 
 pub operand_counts : (depth : ℕ) (k : Sym) → IsOperand k → IsCounted depth (token k)
-operand_counts depth k i = record { counts = λ s. ⊎_elim {A = (t : State) × (bytes : List ℕ) × (token k s ≡ Ok (bytes, t))}
-    (λ r. subst (Counts depth s) (sym r.2) (operand_ran k i s r.0 r.1 ((token_exact k).sound s r.0 r.1 r.2)))
-    (λ r. subst (Counts depth s) (sym r) tt) (token_cases k s) }
+operand_counts depth k i = record {
+  counts = λ s. ⊎_elim {A = (t : State) × (bytes : List ℕ) × (token k s ≡ Ok (bytes, t))}
+      (λ r. subst (Counts depth s) (sym r.2) (operand_ran k i s r.0 r.1 ((token_exact k).sound s r.0 r.1 r.2)))
+      (λ r. subst (Counts depth s) (sym r) tt) (token_cases k s);
+}
 
 -- operators
 pub record IsSign (k : Sym) : Type 0 where

@@ -1,5 +1,5 @@
 -- Parsers of expressions go past runs of expressions.
-use Rattle.std.proofs.Common.{◌≡◌, ◌≤◌, ◌<◌, ◌+◌, ◌⊎◌, inl, inr, ℕ, zero, suc, pos, Bool, true, false, cond, List, [], ◌∷◌, ◌++◌, length, refl, sym, ap, ◌∙◌, subst, arith, Option, Some, None, Ok, Err, ⊎_elim, append_assoc}
+use Rattle.std.proofs.Common.{◌≡◌, ◌≤◌, ◌<◌, ◌+◌, inl, inr, ℕ, zero, suc, pos, Bool, true, false, cond, List, [], ◌∷◌, ◌++◌, refl, sym, ap, ◌∙◌, subst, arith, Option, Some, Ok, Err, ⊎_elim, append_assoc}
 use Rattle.std.specs.Str.Parse.{digits_value}
 use Rattle.nf_core.specs.declared.operators.BinOp.{BinOp}
 use Rattle.nf_core.specs.declared.trees.Expr.{Expr}
@@ -15,10 +15,10 @@ use Rattle.nf_parse.specs.Combinators.{Token}
 use Rattle.nf_parse.specs.Grammar.{op_at}
 use Rattle.nf_parse.specs.Answers as answers
 use Rattle.nf_parse.specs.Answers.{is_operator, is_operand, is_open, is_close, is_time, count, IsRun}
-use Rattle.nf_parse.specs.Parsers.{Outcome, Parser, bind, and_then, done, refuse, too_deep, is_sym, is_at, in_table, token, operator, after, enclosed, at_operator, bytes_of, tail_of}
+use Rattle.nf_parse.specs.Parsers.{Outcome, Parser, bind, and_then, done, refuse, too_deep, is_sym, is_at, in_table, token, operator, after, enclosed, at_operator}
 use Rattle.nf_parse.specs.Reading.{chain_from, chain, single, sign_of, unary_from, unary, member_at, member, read, primary_at, primary, product, sum, comparison, conjunction, expression, paren}
-use Rattle.nf_parse.proofs.Exact.{bound, token_exact, ok_same, found, same_is}
-use Rattle.nf_parse.proofs.Counted.{Ran, Past, Counts, IsCounted, ran_none, ran_ran, ran_past, ran_counts, bind_counts, at_counts, token_cases, IsOperand, operand_ran, operand_counts, IsSign, limit_past, sign_counts, operator_used, counted_append, run_append, one_count}
+use Rattle.nf_parse.proofs.Exact.{token_exact, found, same_is}
+use Rattle.nf_parse.proofs.Counted.{Ran, Past, Counts, IsCounted, ran_none, ran_ran, ran_counts, bind_counts, at_counts, token_cases, IsOperand, operand_ran, operand_counts, IsSign, limit_past, sign_counts, operator_used, counted_append, run_append, one_count}
 
 module _ (depth : ℕ) (table : Sym → Option BinOp) (signs : (k : Sym) (o : BinOp) → table k ≡ Some o → IsSign k) (p : Parser Expr) (f : IsCounted depth p) where
   full : (s : State) (o : BinOp) → in_table table (next s) ≡ Some o → s.operators ≤ 0 → Past depth s
@@ -54,8 +54,10 @@ module _ (depth : ℕ) (table : Sym → Option BinOp) (signs : (k : Sym) (o : Bi
 
   pub single_counts : IsCounted depth (single table p)
   unfolding single
-  single_counts = record { counts = λ s. bind_counts depth s (p s) (λ left t. at_operator (in_table table (next t)) (done left) (λ o. and_then operator (λ word. and_then p (λ right. done (node.Bin o left right)))) t)
-      (f.counts s) (λ left t r. behind_counts left t) }
+  single_counts = record {
+    counts = λ s. bind_counts depth s (p s) (λ left t. at_operator (in_table table (next t)) (done left) (λ o. and_then operator (λ word. and_then p (λ right. done (node.Bin o left right)))) t)
+        (f.counts s) (λ left t r. behind_counts left t);
+  }
 
 minus_sign : IsSign kind.Minus
 unfolding is_operator is_open is_close
@@ -222,8 +224,14 @@ module _ (depth : ℕ) where
         is = x.words ∙ ap (λ ws. (kind.Open, a) ∷ ws) (r.is ∙ ap (λ ws. r.run ++ ws) y.words ∙ sym (append_assoc r.run ((kind.Close, b) ∷ []) v.words));
         runs = answers.paren (inl open_kinds.1) (run_append r.run ((kind.Close, b) ∷ []) r.runs (answers.paren (inr close_kinds.2) answers.empty));
         used = omega (arith, x.operators, r.used, y.operators, in_front is_operator false kind.Open a inner open_kinds.0, at_end is_operator false kind.Close b r.run close_kinds.0);
-        closed = omega (arith, r.closed, in_front is_open true kind.Open a inner open_kinds.1, at_end is_open false kind.Close b r.run close_kinds.1,
-            in_front is_close false kind.Open a inner open_kinds.2, at_end is_close true kind.Close b r.run close_kinds.2);
+        closed = omega (
+          arith,
+          r.closed,
+          in_front is_open true kind.Open a inner open_kinds.1,
+          at_end is_open false kind.Close b r.run close_kinds.1,
+          in_front is_close false kind.Open a inner open_kinds.2,
+          at_end is_close true kind.Close b r.run close_kinds.2,
+        );
       }
 
   enclosed_past : (s t : State) (a : List ℕ) → Token kind.Open s a t → Past depth t → Past (suc depth) s
@@ -248,9 +256,11 @@ module _ (depth : ℕ) where
   inner_counts s t a r (Err (fault.TooDeep n)) c = enclosed_past s t a r c
 
   enclosed_counts : (p : Parser Expr) → IsCounted depth p → IsCounted (suc depth) (enclosed kind.Open kind.Close p)
-  enclosed_counts p f = record { counts = λ s. ⊎_elim {A = (t : State) × (bytes : List ℕ) × (token kind.Open s ≡ Ok (bytes, t))}
-      (λ r. subst (λ z. Counts (suc depth) s (bind z (λ b. and_then p (λ x. after kind.Close (done x))))) (sym r.2) (inner_counts s r.0 r.1 ((token_exact kind.Open).sound s r.0 r.1 r.2) (p r.0) (f.counts r.0)))
-      (λ r. subst (λ z. Counts (suc depth) s (bind z (λ b. and_then p (λ x. after kind.Close (done x))))) (sym r) tt) (token_cases kind.Open s) }
+  enclosed_counts p f = record {
+    counts = λ s. ⊎_elim {A = (t : State) × (bytes : List ℕ) × (token kind.Open s ≡ Ok (bytes, t))}
+        (λ r. subst (λ z. Counts (suc depth) s (bind z (λ b. and_then p (λ x. after kind.Close (done x))))) (sym r.2) (inner_counts s r.0 r.1 ((token_exact kind.Open).sound s r.0 r.1 r.2) (p r.0) (f.counts r.0)))
+        (λ r. subst (λ z. Counts (suc depth) s (bind z (λ b. and_then p (λ x. after kind.Close (done x))))) (sym r) tt) (token_cases kind.Open s);
+  }
 
   paren_within : IsCounted (suc depth) (enclosed kind.Open kind.Close (expression (paren depth))) → IsCounted (suc depth) (paren (suc depth))
   unfolding paren

@@ -5,7 +5,7 @@ use Rattle.nf_parse.specs.contracts.symbol.Sym.{the_type}
 use Rattle.nf_parse.specs.declared.symbol.Sym.{Sym}
 use Rattle.nf_parse.specs.State.{Word, State, state, next, next_of}
 use Rattle.nf_parse.specs.Combinators.{Relation, Token, Done, Then, Whole, Operator}
-use Rattle.nf_parse.specs.Parsers.{Outcome, Parser, bind, and_then, done, same, is_sym, refuse, token, operator, use_up, restored, whole, in_table, bytes_of, tail_of}
+use Rattle.nf_parse.specs.Parsers.{Outcome, Parser, bind, and_then, done, same, refuse, token, operator, use_up, restored, whole, in_table}
 
 -- what comes next is free
 abbrev pub always : Option Sym → Type 0
@@ -46,7 +46,8 @@ pub then_exact : {A B : Type 0} (p : Parser A) (R : Relation A) (k : A → Parse
     → IsExact (and_then p k) (Then R K) follow
 then_exact p R k K stop follow f g join = record {
   sound = λ s t y e. let b = bound (p s) k y t e in record {
-    given = b.given; middle = b.middle;
+    given = b.given;
+    middle = b.middle;
     first = f.sound s b.middle b.given b.first;
     rest = (g b.given).sound b.middle t y b.rest;
   };

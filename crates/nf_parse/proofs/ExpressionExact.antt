@@ -1,5 +1,5 @@
 -- Expressions and parentheses are read exactly as the grammar has them.
-use Rattle.std.proofs.Common.{◌≡◌, ◌≤◌, ℕ, zero, suc, Bool, true, false, cond, refl, sym, ap, ◌∙◌, subst, arith, Option, Some, None, Ok, Err}
+use Rattle.std.proofs.Common.{◌≡◌, ◌≤◌, ℕ, zero, suc, Bool, true, false, cond, refl, sym, ap, subst, arith, Option, Some, None, Ok}
 use Rattle.nf_core.specs.declared.operators.BinOp.{BinOp}
 use Rattle.nf_core.specs.declared.trees.Expr.{Expr}
 use Rattle.nf_parse.specs.declared.level.Level.{Level}

@@ -1,5 +1,5 @@
 -- What readings of expressions leave, give and refuse.
-use Rattle.std.proofs.Common.{◌≡◌, ◌+◌, ◌≤ℤ◌, ℕ, ℤ, zero, suc, pos, Bool, true, false, List, [], ◌∷◌, ◌++◌, refl, sym, ap, ◌∙◌, subst, arith, Option, Some, None, Ok, Err, IsTrue}
+use Rattle.std.proofs.Common.{◌≡◌, ◌≤ℤ◌, ℕ, zero, suc, pos, Bool, true, false, List, [], ◌++◌, sym, subst, arith, Option, Ok, Err, IsTrue}
 use Rattle.std.specs.Str.Parse.{digits_value}
 use Rattle.std.specs.List.{All}
 use Rattle.std.proofs.lemmas.List.Elements.{All-head, All-tail}
@@ -16,16 +16,14 @@ use Rattle.nf_parse.specs.declared.fault.Fault.TheVariants as fault
 use Rattle.nf_parse.specs.declared.level.Level.TheVariants as levels
 use Rattle.nf_parse.specs.declared.symbol.Sym.{Sym}
 use Rattle.nf_parse.specs.declared.symbol.Sym.TheVariants as kind
-use Rattle.nf_parse.specs.State.{Word, State, state}
+use Rattle.nf_parse.specs.State.{Word, State}
 use Rattle.nf_parse.specs.Combinators.{Relation, Token, Operator, Chain, Single, one, more, alone, pair}
 use Rattle.nf_parse.specs.Grammar as grammar
 use Rattle.nf_parse.specs.Grammar.{op_at, Primary, Unary, Product, Sum, Comparison, Conjunction, Expression, Paren}
 use Rattle.nf_parse.specs.Answers.{IsPassed}
-use Rattle.nf_parse.specs.Parsers.{Outcome, Parser}
 use Rattle.nf_parse.specs.Reading.{expression, paren}
-use Rattle.nf_parse.proofs.Exact.{IsExact}
 use Rattle.nf_parse.proofs.ExpressionExact.{expression_exact}
-use Rattle.nf_parse.proofs.Counted.{Ran, Past, Counts, IsCounted}
+use Rattle.nf_parse.proofs.Counted.{Ran, Past, Counts}
 use Rattle.nf_parse.proofs.CountedExpressions.{expression_counts}
 use Rattle.nf_parse.proofs.Limits.{IsByParts}
 

@@ -1,5 +1,5 @@
 -- The modules of a file as a loop reads them: a module with a name, or a whole run of rules, each time.
-use Rattle.std.proofs.Common.{◌≡◌, ℕ, zero, suc, ◌<◌, ◌≤◌, Bool, true, false, cond, List, [], ◌∷◌, ◌++◌, length, refl, sym, ap, ◌∙◌, subst, arith, append_assoc, Option, Some, None, unwrap_or, Result, Ok, Err}
+use Rattle.std.proofs.Common.{◌≡◌, ℕ, zero, suc, ◌<◌, ◌≤◌, Bool, true, false, cond, List, [], ◌∷◌, ◌++◌, length, refl, sym, ap, ◌∙◌, subst, arith, append_assoc, Option, Some, None, unwrap_or, Ok, Err}
 use Rattle.std.specs.Prelude.{is_some}
 use Rattle.std.proofs.lemmas.List.{append-nil}
 use Rattle.nf_core.specs.declared.trees.Expr.{Expr}
@@ -10,7 +10,7 @@ use Rattle.nf_parse.specs.declared.symbol.Sym.{Sym}
 use Rattle.nf_parse.specs.declared.symbol.Sym.TheVariants as kind
 use Rattle.nf_parse.specs.State.{Word, State, next, next_of}
 use Rattle.nf_parse.specs.Grammar.{Item, loose, named, unnamed, in_front, modules_of}
-use Rattle.nf_parse.specs.Parsers.{Outcome, Parser, bind, and_then, done, token, after, enclosed}
+use Rattle.nf_parse.specs.Parsers.{Outcome, Parser, bind, and_then, done, token, after}
 use Rattle.nf_parse.specs.Parts.{in_list, choose, optional, repeated_from, repeated}
 use Rattle.nf_parse.specs.RuleReading.{is_ident, imports, rule, rules, module_word, item, file, part}
 use Rattle.nf_parse.proofs.PartsExact.{IsShorter, ok_value}
@@ -175,7 +175,7 @@ module _ (p : Parser Expr) (short : IsShorter (rule p)) where
   listed_run n turns rec s u t x rs (Ok read) l k h e g i =
       let j = ok_value (x ∷ read.0) rs read.1 t i in
       subst (λ ys. IsRunOf (suc turns) s t ys) j.0 (subst (λ v. IsRunOf (suc turns) s v (x ∷ read.0)) j.1
-          (more_run turns s u read.1 x read.0 h e (rec turns u read.1 read.0 (omega (arith, short.fewer s u x e)) (omega (arith, short.fewer s u x e)) g)))
+      (more_run turns s u read.1 x read.0 h e (rec turns u read.1 read.0 (omega (arith, short.fewer s u x e)) (omega (arith, short.fewer s u x e)) g)))
   listed_run n turns rec s u t x rs (Err f) l k h e g i = absurd (fault_read (List Rule) f rs t i)
 
   turn_run : (n turns : ℕ) → Runs n → (s t : State) (rs : List Rule) (b : Bool) (o : Outcome Rule) → length s.words ≤ suc n → length s.words ≤ turns → is_ident (next s) ≡ b → rule p s ≡ o

@@ -1,6 +1,6 @@
 -- Whole files: what is read to the end of the words is exactly a file, and there is one at most.
-use Rattle.std.proofs.Common.{◌≡◌, ℕ, zero, suc, ◌+◌, ◌<◌, ◌≤◌, Bool, true, false, cond, List, [], ◌∷◌, length, refl, sym, ap, ◌∙◌, subst, arith, Option, Some, None, Ok, Err, IsTrue}
-use Rattle.std.specs.Prelude.{is_some, flat_map, ◌++◌}
+use Rattle.std.proofs.Common.{◌≡◌, ℕ, zero, suc, ◌+◌, ◌≤◌, Bool, true, false, cond, List, [], ◌∷◌, length, refl, sym, ◌∙◌, subst, arith, Ok, Err, IsTrue}
+use Rattle.std.specs.Prelude.{is_some, flat_map}
 use Rattle.std.specs.List.{All}
 use Rattle.std.proofs.lemmas.List.Elements.{All-nil, All-append, All-weaker, All-head, All-tail}
 use Rattle.nf_core.specs.Identifiers.{is_identifier}
@@ -8,9 +8,7 @@ use Rattle.nf_core.specs.Trees.{tree, IsWrittenTree, IsWritten}
 use Rattle.nf_core.specs.declared.trees.Expr.{Expr}
 use Rattle.nf_core.specs.declared.trees.Rule.{Rule}
 use Rattle.nf_core.specs.declared.trees.Module.{Module}
-use Rattle.nf_parse.specs.declared.fault.Fault.{Fault}
 use Rattle.nf_parse.specs.declared.fault.Fault.TheVariants as fault
-use Rattle.nf_parse.specs.declared.symbol.Sym.{Sym}
 use Rattle.nf_parse.specs.State.{Word, State, state, next, next_of}
 use Rattle.nf_parse.specs.Grammar.{File, modules_of}
 use Rattle.nf_parse.specs.Answers.{IsFileWithin, IsPassed}
@@ -19,7 +17,7 @@ use Rattle.nf_parse.specs.Reading.{expression, paren}
 use Rattle.nf_parse.specs.Parts.{in_list, repeated_from, repeated}
 use Rattle.nf_parse.specs.RuleReading.{item, file}
 use Rattle.nf_parse.proofs.PartsExact.{IsShorter, ok_value}
-use Rattle.nf_parse.proofs.PartsRead.{IsBehind, IsReading, IsReadingAlone}
+use Rattle.nf_parse.proofs.PartsRead.{IsReading}
 use Rattle.nf_parse.proofs.Limits.{IsByParts}
 use Rattle.nf_parse.proofs.LargerExpressions.{expression_larger}
 use Rattle.nf_parse.proofs.ExpressionRead.{expression_before, expression_passed, IsWord, expression_written}

@@ -1,5 +1,5 @@
 -- Larger limits read the same expressions, unless a limit was passed.
-use Rattle.std.proofs.Common.{◌≡◌, ◌+◌, ℕ, zero, suc, pos, Bool, true, false, cond, List, [], ◌∷◌, length, refl, sym, ap, ◌∙◌, subst, arith, Option, Some, None, Ok, Err}
+use Rattle.std.proofs.Common.{◌≡◌, ◌+◌, ℕ, zero, suc, pos, Bool, true, false, cond, List, [], ◌∷◌, refl, sym, ap, subst, arith, Option, Some, None, Ok, Err}
 use Rattle.std.specs.Str.Parse.{digits_value}
 use Rattle.nf_core.specs.declared.operators.BinOp.{BinOp}
 use Rattle.nf_core.specs.declared.trees.Expr.{Expr}
@@ -9,9 +9,9 @@ use Rattle.nf_parse.specs.declared.level.Level.TheVariants as level
 use Rattle.nf_parse.specs.declared.symbol.Sym.{Sym}
 use Rattle.nf_parse.specs.declared.symbol.Sym.TheVariants as kind
 use Rattle.nf_parse.specs.declared.fault.Fault.TheVariants as fault
-use Rattle.nf_parse.specs.State.{Word, State, state, next, next_of}
+use Rattle.nf_parse.specs.State.{Word, State, state, next}
 use Rattle.nf_parse.specs.Grammar.{op_at}
-use Rattle.nf_parse.specs.Parsers.{Outcome, Parser, bind, use_up, and_then, done, refuse, too_deep, is_at, in_table, token, operator, after, enclosed, at_operator}
+use Rattle.nf_parse.specs.Parsers.{Outcome, Parser, bind, use_up, and_then, done, refuse, too_deep, is_at, in_table, token, operator, enclosed, at_operator}
 use Rattle.nf_parse.specs.Reading.{chain_from, chain, single, sign_of, unary_from, unary, member_at, member, read, primary_at, primary, product, sum, comparison, conjunction, expression, paren}
 use Rattle.nf_parse.proofs.PartsLarger.{plus, IsSame, IsLarger, done_larger, then_larger, token_larger, after_larger, enclosed_larger}
 
@@ -59,8 +59,10 @@ module _ (table : Sym → Option BinOp) (p q : Parser Expr) (f : IsLarger p q) w
 
   pub chain_larger : IsLarger (chain table p) (chain table q)
   unfolding chain
-  chain_larger = record { same = λ m s. bind_same m (p s) (q (plus m s)) (λ left t. chain_from table p t.operators left t) (λ left t. chain_from table q t.operators left t) (f.same m s)
-      (λ left t. from_same m t.operators (t.operators + m) refl left t) }
+  chain_larger = record {
+    same = λ m s. bind_same m (p s) (q (plus m s)) (λ left t. chain_from table p t.operators left t) (λ left t. chain_from table q t.operators left t) (f.same m s)
+        (λ left t. from_same m t.operators (t.operators + m) refl left t);
+  }
 
   behind_same : (m : ℕ) (left : Expr) (s : State) → IsSame m
       (at_operator (in_table table (next s)) (done left) (λ o. and_then operator (λ word. and_then p (λ right. done (node.Bin o left right)))) s)
@@ -72,10 +74,12 @@ module _ (table : Sym → Option BinOp) (p q : Parser Expr) (f : IsLarger p q) w
 
   pub single_larger : IsLarger (single table p) (single table q)
   unfolding single
-  single_larger = record { same = λ m s. bind_same m (p s) (q (plus m s))
-      (λ left t. at_operator (in_table table (next t)) (done left) (λ o. and_then operator (λ word. and_then p (λ right. done (node.Bin o left right)))) t)
-      (λ left t. at_operator (in_table table (next t)) (done left) (λ o. and_then operator (λ word. and_then q (λ right. done (node.Bin o left right)))) t)
-      (f.same m s) (λ left t. behind_same m left t) }
+  single_larger = record {
+    same = λ m s. bind_same m (p s) (q (plus m s))
+        (λ left t. at_operator (in_table table (next t)) (done left) (λ o. and_then operator (λ word. and_then p (λ right. done (node.Bin o left right)))) t)
+        (λ left t. at_operator (in_table table (next t)) (done left) (λ o. and_then operator (λ word. and_then q (λ right. done (node.Bin o left right)))) t)
+        (f.same m s) (λ left t. behind_same m left t);
+  }
 
 module _ (p q : Parser Expr) (f : IsLarger p q) where
   unary_same : (m turns more : ℕ) → more ≡ turns + m → (s : State) → IsSame m (unary_from p turns s) (unary_from q more (plus m s))

@@ -23,3 +23,4 @@ pub mod FileLoop
 pub mod Files
 pub mod Answered
 pub mod RuleCounts
+pub mod Given

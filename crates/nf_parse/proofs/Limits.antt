@@ -1,5 +1,5 @@
 -- The canonical text of what was read opens no more parentheses than what was read, and its operators are those that were used up.
-use Rattle.std.proofs.Common.{◌≡◌, ◌≤◌, ◌<◌, ◌+◌, ◌||◌, ◌&&◌, ℕ, ℤ, zero, suc, pos, Bool, true, false, cond, List, [], ◌∷◌, refl, sym, ap, ◌∙◌, subst, arith, Option, Some, None, Ok, Err, ⊎_elim, max}
+use Rattle.std.proofs.Common.{◌≡◌, ◌≤◌, ◌<◌, ◌+◌, ℕ, ℤ, zero, suc, Bool, true, false, List, refl, sym, ap, ◌∙◌, subst, arith, Some, Ok, ⊎_elim}
 use Rattle.std.specs.Prelude as prelude
 use Rattle.std.proofs.lemmas.Bool.{or_cases, and_parts}
 use borrow.Author.Tests.{ltb-true, leb-true, eqb-true}
@@ -13,12 +13,11 @@ use Rattle.nf_parse.specs.declared.level.Level.{Level}
 use Rattle.nf_parse.specs.declared.level.Level.TheVariants as levels
 use Rattle.nf_parse.specs.declared.symbol.Sym.{Sym}
 use Rattle.nf_parse.specs.declared.symbol.Sym.TheVariants as kind
-use Rattle.nf_parse.specs.State.{State, state}
+use Rattle.nf_parse.specs.State.{State}
 use Rattle.nf_parse.specs.Combinators.{Relation, Operator, Chain, Single, one, more, alone, pair}
 use Rattle.nf_parse.specs.Grammar as grammar
 use Rattle.nf_parse.specs.Grammar.{op_at, Primary, Unary, Product, Sum, Comparison, Conjunction, Expression, Paren}
 use Rattle.nf_parse.specs.Reading.{expression, paren}
-use Rattle.nf_parse.proofs.Exact.{IsExact}
 use Rattle.nf_parse.proofs.ExpressionExact.{expression_exact}
 
 -- the tree of an expression, by its parts
@@ -114,7 +113,7 @@ module _ (parts : IsByParts) (depth : ℕ) where
     single_left o x m n a h = ⊎_elim
         (λ e. a.strict (omega (arith, ltb-true (level (tree x)) (op_level o) e, n)))
         (λ e. let p = and_parts (prelude.nat_eq (level (tree x)) 3) (prelude.nat_eq (op_level o) 3) e in
-            a.strict (omega (arith, eqb-true (level (tree x)) 3 p.0, eqb-true (op_level o) 3 p.1, n)))
+        a.strict (omega (arith, eqb-true (level (tree x)) 3 p.0, eqb-true (op_level o) 3 p.1, n)))
         (or_cases (prelude.nat_lt (level (tree x)) (op_level o)) _ h)
 
     chain_fits : (number_of l ≡ 3 → ⊥) → (s t : State) (x : Expr) → Chain (op_at l) R s x t → (used : ℕ) × (s.operators ≡ used + t.operators) × IsFitting depth (number_of l) used (tree x)
@@ -205,9 +204,12 @@ module _ (parts : IsByParts) (depth : ℕ) where
       let closed = inside.rest in
       let f = g.fits r.middle inside.middle inside.given inside.first in
       let y : inside.given ≡ x = sym closed.rest.is in
-      let h : t.operators ≡ inside.middle.operators = ap (λ (u : State). u.operators) closed.rest.stays ∙ closed.first.operators in
-      (f.0, omega (arith, f.1, h, r.first.operators), subst (λ z. IsFitting (suc depth) 7 f.0 (tree z)) y
-          (record { used = f.2.used; low = omega (arith, f.2.low); strict = λ e. omega (arith, f.2.low) }))
+      let h : t.operators ≡ inside.middle.operators = ap (λ (u : State). u.operators) closed.rest.stays ∙ closed.first.operators in (
+        f.0,
+        omega (arith, f.1, h, r.first.operators),
+        subst (λ z. IsFitting (suc depth) 7 f.0 (tree z)) y
+            (record { used = f.2.used; low = omega (arith, f.2.low); strict = λ e. omega (arith, f.2.low) }),
+      )
 
 module _ (parts : IsByParts) where
   paren_gives : (depth : ℕ) → Gives parts depth 7 (Paren depth)

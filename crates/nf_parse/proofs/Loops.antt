@@ -1,5 +1,5 @@
 -- The loop over operands: what it has read, and its measure.
-use Rattle.std.proofs.Common.{◌≡◌, ◌≤◌, ◌<◌, ℕ, zero, suc, List, [], ◌∷◌, refl, sym, ap, ◌∙◌, subst, arith, Option, Some, None, Ok, Err}
+use Rattle.std.proofs.Common.{◌≡◌, ◌≤◌, ◌<◌, ℕ, zero, suc, List, [], ◌∷◌, refl, sym, ap, ◌∙◌, arith, Option, Some, None, Ok, Err}
 use Rattle.nf_core.specs.declared.operators.BinOp.{BinOp}
 use Rattle.nf_core.specs.declared.trees.Expr.{Expr}
 use Rattle.nf_core.specs.declared.trees.Expr.TheVariants as node
@@ -11,10 +11,9 @@ use Rattle.nf_parse.specs.declared.level.Level.{Level}
 use Rattle.nf_parse.specs.declared.level.Level.TheVariants as level
 use Rattle.nf_parse.specs.declared.symbol.Sym.{Sym}
 use Rattle.nf_parse.specs.State.{Word, State, state, next, next_of}
-use Rattle.nf_parse.specs.Combinators.{Operator}
 use Rattle.nf_parse.specs.Parsers.{Outcome, Parser, bind, and_then, done, too_deep, operator, in_table, IsWithin, Reads, Stops}
 use Rattle.nf_parse.specs.Reading.{chain_from, chain, sign_of, unary_from, unary}
-use Rattle.nf_parse.proofs.Exact.{ok_same, bound, then_is, operator_sound, found}
+use Rattle.nf_parse.proofs.Exact.{ok_same, bound, then_is, found}
 use Rattle.nf_parse.proofs.Steps.{operator_full}
 
 -- how far a function of the reader is from the words
@@ -82,6 +81,7 @@ module _ (table : Sym → Option BinOp) (p : Parser Expr) where
           operand_stop : (b : Outcome Expr) → bind b (λ x. done (node.Bin o left x)) ≡ Err f → bind b (λ x. chain_from table p turns (node.Bin o left x)) ≡ Err f
           operand_stop (Err g) e = e
           operand_stop (Ok read) e = cc
+
       go : (a : Outcome (List ℕ)) → operator now ≡ a → bind a (λ word. and_then p (λ x. done (node.Bin o left x))) ≡ Err f → bind a (λ word. and_then p (λ x. chain_from table p turns (node.Bin o left x))) ≡ Err f
       go a i e = then_stop a e
 

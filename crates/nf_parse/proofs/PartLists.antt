@@ -1,12 +1,12 @@
 -- Lists of parts as a loop reads them, item by item.
-use Rattle.std.proofs.Common.{◌≡◌, ℕ, zero, suc, ◌<◌, ◌≤◌, Bool, true, false, cond, List, [], ◌∷◌, ◌++◌, length, refl, sym, ap, ◌∙◌, subst, arith, append_assoc, Option, Some, None, Result, Ok, Err}
+use Rattle.std.proofs.Common.{◌≡◌, ℕ, zero, suc, ◌<◌, ◌≤◌, Bool, true, false, List, [], ◌∷◌, ◌++◌, length, refl, sym, ap, ◌∙◌, arith, append_assoc, Option, None, Ok, Err}
 use Rattle.std.proofs.lemmas.List.{append-nil}
 use Rattle.nf_parse.specs.declared.symbol.Sym.{Sym}
 use Rattle.nf_parse.specs.declared.fault.Fault.{Fault}
 use Rattle.nf_parse.specs.State.{Word, State, next, next_of}
 use Rattle.nf_parse.specs.declared.fault.Halt.{Halt}
 use Rattle.nf_parse.specs.declared.fault.Halt.TheVariants as halt
-use Rattle.nf_parse.specs.Parsers.{Outcome, Parser, bind, and_then, is_sym, Reads, IsWithin}
+use Rattle.nf_parse.specs.Parsers.{Outcome, Parser, bind, is_sym, Reads, IsWithin}
 use Rattle.nf_parse.specs.Parts.{in_list, repeated_from, repeated, next_part, separated}
 
 -- items that were found before those of an outcome

@@ -1,11 +1,10 @@
 -- Larger limits read the same, unless a limit was passed.
-use Rattle.std.proofs.Common.{◌≡◌, ℕ, zero, suc, ◌+◌, Bool, true, false, cond, List, [], ◌∷◌, length, refl, sym, ap, ◌∙◌, subst, arith, Option, Some, None, Result, Ok, Err}
+use Rattle.std.proofs.Common.{◌≡◌, ℕ, zero, suc, ◌+◌, Bool, true, false, cond, List, [], length, refl, Option, Some, None, Ok, Err}
 use Rattle.nf_parse.specs.declared.symbol.Sym.{Sym}
-use Rattle.nf_parse.specs.declared.fault.Fault.{Fault}
 use Rattle.nf_parse.specs.declared.fault.Fault.TheVariants as fault
-use Rattle.nf_parse.specs.State.{Word, State, state, next}
+use Rattle.nf_parse.specs.State.{State, state, next}
 use Rattle.nf_parse.specs.Parsers.{Outcome, Parser, behind, bytes_of, bind, and_then, done, is_sym, is_at, refuse, token, after, enclosed, restored, whole, in_table, at_operator}
-use Rattle.nf_parse.specs.Parts.{one_of, choose, in_some, optional, in_list, repeated_from, repeated, next_part, separated}
+use Rattle.nf_parse.specs.Parts.{one_of, choose, in_some, optional, in_list, repeated_from, repeated, separated}
 
 -- the state where so many operators more may be read
 abbrev pub plus : ℕ → State → State

@@ -1,5 +1,5 @@
 -- What readings of the parts of rules leave, give and refuse.
-use Rattle.std.proofs.Common.{◌≡◌, ℕ, zero, suc, ◌+◌, ◌<◌, ◌≤◌, Bool, true, false, cond, List, [], ◌∷◌, ◌++◌, length, refl, sym, ap, ◌∙◌, subst, arith, append_assoc, length-append, Option, Some, None, Result, Ok, Err}
+use Rattle.std.proofs.Common.{◌≡◌, ℕ, zero, suc, ◌<◌, ◌≤◌, Bool, true, false, cond, List, [], ◌∷◌, ◌++◌, length, refl, sym, ap, ◌∙◌, subst, arith, append_assoc, length-append, Option, Some, None, Ok, Err}
 use Rattle.std.specs.List.{All}
 use Rattle.std.proofs.lemmas.List.Elements.{All-nil, All-cons, All-head, All-tail}
 use Rattle.nf_parse.specs.declared.symbol.Sym.{Sym}
@@ -7,7 +7,7 @@ use Rattle.nf_parse.specs.declared.fault.Fault.{Fault}
 use Rattle.nf_parse.specs.declared.fault.Fault.TheVariants as fault
 use Rattle.nf_parse.specs.State.{Word, State, state, next, next_of}
 use Rattle.nf_parse.specs.Answers.{IsPassed}
-use Rattle.nf_parse.specs.Parsers.{Outcome, Parser, behind, tail_of, bytes_of, bind, and_then, done, is_sym, is_at, refuse, token, after, enclosed, restored, whole, in_table, at_operator}
+use Rattle.nf_parse.specs.Parsers.{Outcome, Parser, behind, tail_of, bytes_of, bind, and_then, done, is_sym, is_at, refuse, token, after, restored, whole, in_table, at_operator}
 use Rattle.nf_parse.specs.Parts.{one_of, choose, in_some, optional, in_list, repeated_from, repeated, next_part, separated}
 use Rattle.nf_parse.proofs.Exact.{same_is}
 use Rattle.nf_parse.proofs.PartsExact.{read_as, ok_value, IsShorter}
@@ -160,7 +160,7 @@ module _ (depth : ℕ) (fits : Word → Type 0) where
 
   -- one part after another
   module _ {A B : Type 0} {p : Parser A} {k : A → Parser B} {Fine : A → Type 0} {Good : B → Type 0}
-    (part : IsReading depth fits p Fine) (rest : (x : A) → IsReading depth fits (k x) (λ y. Fine x → Good y)) where
+      (part : IsReading depth fits p Fine) (rest : (x : A) → IsReading depth fits (k x) (λ y. Fine x → Good y)) where
     then_behind : (s t : State) (y : B) (o : Outcome A) → p s ≡ o → bind o k ≡ Ok (y, t) → IsBehind s t
     then_behind s t y (Ok read) e f = further s read.1 t (part.behind s read.1 read.0 e) ((rest read.0).behind read.1 t y f)
     then_behind s t y (Err f) e g = absurd (no_read f y t g)

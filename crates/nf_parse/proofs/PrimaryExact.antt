@@ -1,5 +1,5 @@
 -- Operands without operators read what their relation has.
-use Rattle.std.proofs.Common.{◌≡◌, ◌≤◌, ℕ, zero, suc, pos, Bool, true, false, List, [], ◌∷◌, refl, sym, ap, ◌∙◌, subst, arith, Option, Some, None, Ok, Err}
+use Rattle.std.proofs.Common.{◌≡◌, ℕ, pos, true, false, List, refl, ap, ◌∙◌, subst, Option, Some, Ok}
 use Rattle.std.specs.Str.Parse.{digits_value}
 use Rattle.nf_core.specs.declared.trees.Expr.{Expr}
 use Rattle.nf_core.specs.declared.trees.Expr.TheVariants as node
@@ -10,9 +10,9 @@ use Rattle.nf_parse.specs.State.{State, next}
 use Rattle.nf_parse.specs.Combinators.{Relation, Token}
 use Rattle.nf_parse.specs.Grammar as grammar
 use Rattle.nf_parse.specs.Grammar.{Primary}
-use Rattle.nf_parse.specs.Parsers.{Outcome, Parser, bind, and_then, done, token, after}
+use Rattle.nf_parse.specs.Parsers.{Parser, and_then, done, token, after}
 use Rattle.nf_parse.specs.Reading.{member_at, member, read, primary_at, primary}
-use Rattle.nf_parse.proofs.Exact.{IsExact, IsSpending, always, ok_same, bound, then_is, token_exact, token_next, token_spending}
+use Rattle.nf_parse.proofs.Exact.{IsExact, always, ok_same, bound, then_is, token_exact, token_next}
 
 -- one word and what it gives
 record One (k : Sym) (make : List ℕ → Expr) (s t : State) (x : Expr) : Type 0 where

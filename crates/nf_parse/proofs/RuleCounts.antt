@@ -1,10 +1,9 @@
 -- A file has at most as many rules as words.
-use Rattle.std.proofs.Common.{◌≡◌, ℕ, zero, suc, ◌+◌, ◌<◌, ◌≤◌, Bool, true, false, cond, List, [], ◌∷◌, length, refl, sym, ap, ◌∙◌, subst, arith, length-append, Option, Some, None, unwrap_or, Ok, Err}
+use Rattle.std.proofs.Common.{◌≡◌, ℕ, zero, suc, ◌+◌, ◌≤◌, Bool, true, false, cond, List, [], ◌∷◌, length, refl, ap, subst, arith, length-append, Option, Some, None, unwrap_or, Ok, Err}
 use Rattle.std.specs.Prelude.{is_some, flat_map, ◌++◌}
 use Rattle.nf_core.specs.declared.trees.Expr.{Expr}
 use Rattle.nf_core.specs.declared.trees.Rule.{Rule}
 use Rattle.nf_core.specs.declared.trees.Module.{Module}
-use Rattle.nf_parse.specs.declared.fault.Fault.{Fault}
 use Rattle.nf_parse.specs.declared.symbol.Sym.{Sym}
 use Rattle.nf_parse.specs.declared.symbol.Sym.TheVariants as kind
 use Rattle.nf_parse.specs.State.{State, next}
@@ -13,7 +12,7 @@ use Rattle.nf_parse.specs.Parsers.{Outcome, Parser, bind, and_then, done, token,
 use Rattle.nf_parse.specs.Reading.{expression, paren}
 use Rattle.nf_parse.specs.Parts.{in_list, choose, optional, repeated_from, repeated}
 use Rattle.nf_parse.specs.RuleReading.{is_ident, imports, rule, rules, module_word, item, file}
-use Rattle.nf_parse.proofs.PartsExact.{IsShorter, ok_value, no_ok}
+use Rattle.nf_parse.proofs.PartsExact.{ok_value, no_ok}
 use Rattle.nf_parse.proofs.PartsRead.{IsReading, not_longer, token_reading, optional_reading}
 use Rattle.nf_parse.proofs.RulesRead.{imports_reading}
 use Rattle.nf_parse.proofs.RulesExact.{short_rule}

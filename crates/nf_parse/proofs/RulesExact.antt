@@ -1,23 +1,19 @@
 -- Rules, modules and files are read exactly.
-use Rattle.std.proofs.Common.{◌≡◌, ℕ, ◌<◌, ◌⊎◌, inl, inr, Bool, true, false, cond, List, [], is_some, refl, sym, ap, ◌∙◌, subst, arith, ⊎_elim, Option, Some, None, unwrap_or, Ok, Err}
+use Rattle.std.proofs.Common.{◌≡◌, ℕ, ◌⊎◌, inl, inr, Bool, true, false, [], is_some, refl, sym, subst, Option, Some, None, unwrap_or}
 use Rattle.nf_core.specs.declared.trees.Expr.{Expr}
 use Rattle.nf_core.specs.declared.trees.Atom.{Atom}
-use Rattle.nf_core.specs.declared.trees.Body.{Body}
 use Rattle.nf_core.specs.declared.trees.Body.TheVariants as bodies
-use Rattle.nf_core.specs.declared.trees.Entry.{Entry}
-use Rattle.nf_core.specs.declared.trees.Rule.{Rule}
 use Rattle.nf_core.specs.declared.trees.Module.{Module}
 use Rattle.nf_core.specs.declared.operators.Op.{Op}
 use Rattle.nf_parse.specs.declared.symbol.Sym.{Sym}
 use Rattle.nf_parse.specs.declared.symbol.Sym.TheVariants as kind
-use Rattle.nf_parse.specs.State.{Word, State, next}
-use Rattle.nf_parse.specs.Combinators.{Relation, Token, OneOf, Done, Then, After, Enclosed, Either, Optional, Separated, Repeated, Whole}
-use Rattle.nf_parse.specs.Grammar.{op_at, op_of, xop_of, atom_of, AtomWord, BodyWord, Expression, Paren, Clause, EntryWord, MapWord, RuleWord, Imports, ModuleWord, Item, loose, named, ItemWord, modules_of, File}
-use Rattle.nf_parse.specs.Parsers.{Outcome, Parser, and_then, done, is_sym, token, after, enclosed, whole, in_table}
+use Rattle.nf_parse.specs.Combinators.{Relation, Token, OneOf, Done, Then, After, Enclosed, Optional, Repeated, Whole}
+use Rattle.nf_parse.specs.Grammar.{op_at, op_of, xop_of, atom_of, AtomWord, BodyWord, Expression, Paren, Clause, EntryWord, MapWord, RuleWord, Imports, ModuleWord, loose, named, ItemWord, modules_of, File}
+use Rattle.nf_parse.specs.Parsers.{Parser, is_sym, token, after, enclosed, whole, in_table}
 use Rattle.nf_parse.specs.Reading.{expression, paren}
-use Rattle.nf_parse.specs.Parts.{one_of, choose, optional, repeated, next_part, separated}
+use Rattle.nf_parse.specs.Parts.{repeated, next_part}
 use Rattle.nf_parse.specs.Answers.{most_open}
-use Rattle.nf_parse.specs.RuleReading.{atom, pair, exclusive, is_op, ends_body, rule_body, imports, is_ident, clause, entry, entries, rule, rules, module_word, item, file, limited}
+use Rattle.nf_parse.specs.RuleReading.{atom, pair, exclusive, ends_body, rule_body, imports, is_ident, clause, entry, entries, rule, rules, module_word, item, file, limited}
 use Rattle.nf_parse.proofs.Exact.{always, whole_exact}
 use Rattle.nf_parse.proofs.ExpressionExact.{Ends, expression_exact}
 use Rattle.nf_parse.proofs.ExpressionRead.{expression_before, expression_passed}

@@ -1,5 +1,5 @@
 -- With larger limits rules, modules and files are read alike, unless a limit was passed.
-use Rattle.std.proofs.Common.{◌≡◌, List, [], Option, Some, None, unwrap_or}
+use Rattle.std.proofs.Common.{[], Some, unwrap_or}
 use Rattle.std.specs.Prelude.{is_some}
 use Rattle.nf_core.specs.declared.trees.Expr.{Expr}
 use Rattle.nf_core.specs.declared.trees.Body.TheVariants as bodies

@@ -1,12 +1,9 @@
 -- What readings of rules, modules and files leave, give and refuse.
-use Rattle.std.proofs.Common.{◌≡◌, ℕ, Bool, true, false, List, [], Option, Some, None, IsTrue, unwrap_or, refl, sym, ap, ◌∙◌, subst}
+use Rattle.std.proofs.Common.{ℕ, List, [], Option, Some, None, unwrap_or}
 use Rattle.std.specs.Prelude.{◌∷◌, ◌++◌, map, option_to_list, is_some}
 use Rattle.std.specs.List.{All}
 use Rattle.std.proofs.lemmas.List.Elements.{All-nil, All-cons, All-append, All-map, All-weaker, All-head, All-tail}
-use Rattle.nf_core.specs.Identifiers.{is_identifier}
-use Rattle.nf_core.specs.Trees.{tree, IsWrittenTree, IsWritten, atoms_of, expressions_of}
-use Rattle.nf_core.specs.declared.operators.Op.{Op}
-use Rattle.nf_core.specs.declared.operators.Xop.{Xop}
+use Rattle.nf_core.specs.Trees.{atoms_of, expressions_of}
 use Rattle.nf_core.specs.declared.trees.Expr.{Expr}
 use Rattle.nf_core.specs.declared.trees.Atom.{Atom}
 use Rattle.nf_core.specs.declared.trees.Body.{Body}
@@ -18,11 +15,11 @@ use Rattle.nf_parse.specs.declared.symbol.Sym.{Sym}
 use Rattle.nf_parse.specs.declared.symbol.Sym.TheVariants as kind
 use Rattle.nf_parse.specs.State.{Word}
 use Rattle.nf_parse.specs.Grammar.{op_of, xop_of, atom_of, Item, loose, named, in_front, unnamed, modules_of}
-use Rattle.nf_parse.specs.Parsers.{Parser, and_then, done, is_sym, token, after, enclosed, whole}
-use Rattle.nf_parse.specs.Parts.{one_of, choose, optional, repeated, separated, next_part}
+use Rattle.nf_parse.specs.Parsers.{Parser, and_then, done, token, after, enclosed}
+use Rattle.nf_parse.specs.Parts.{optional}
 use Rattle.nf_parse.specs.RuleReading.{atom, pair, exclusive, is_op, ends_body, rule_body, imports, is_ident, clause, entry, entries, rule, rules, module_word, item, file}
 use Rattle.nf_parse.proofs.PartsExact.{IsShorter}
-use Rattle.nf_parse.proofs.PartsRead.{OfSome, IsReading, IsReadingAlone, token_reading, token_shorter, one_of_reading, done_reading, looser, then_reading, then_shorter, after_reading, after_shorter, choose_reading, choose_shorter, optional_reading, repeated_reading, next_shorter, separated_reading, whole_reading}
+use Rattle.nf_parse.proofs.PartsRead.{OfSome, IsReading, IsReadingAlone, token_reading, token_shorter, one_of_reading, done_reading, looser, then_reading, then_shorter, after_reading, after_shorter, choose_reading, choose_shorter, optional_reading, repeated_reading, separated_reading, whole_reading}
 
 -- names and expressions as they are wanted
 module _ (IsName : List ℕ → Type 0) (IsWrittenExpr : Expr → Type 0) where
@@ -136,7 +133,7 @@ module _ (IsName : List ℕ → Type 0) (IsWrittenExpr : Expr → Type 0) where
           then_reading depth fits (optional_reading depth fits kind.Where (clause_reading kind.Where)) (λ filter. then_reading depth fits (optional_reading depth fits kind.Map entries_reading) (λ mapped.
           then_reading depth fits (optional_reading depth fits kind.Begin (clause_reading kind.Begin)) (λ start. then_reading depth fits (optional_reading depth fits kind.End (clause_reading kind.End)) (λ stop.
           done_reading depth fits (rule_of head body filter (unwrap_or mapped []) start stop)
-              (λ t s m f b h. written_rule head body filter (unwrap_or mapped []) start stop h b f (written_list mapped m) s t)))))))
+          (λ t s m f b h. written_rule head body filter (unwrap_or mapped []) start stop h b f (written_list mapped m) s t)))))))
 
       pub rule_reading : IsReading depth fits (rule p) IsGoodRule
       unfolding rule
@@ -157,7 +154,7 @@ module _ (IsName : List ℕ → Type 0) (IsWrittenExpr : Expr → Type 0) where
       module_rest_reading : IsReading depth fits module_rest IsWrittenModule
       module_rest_reading = then_reading depth fits (token_reading depth fits kind.Ident) (λ name.
           after_reading depth fits kind.OpenBrace (then_reading depth fits (then_reading depth fits (optional_reading depth fits kind.Import imports_reading) (λ found. then_reading depth fits rules_reading
-              (λ rules. done_reading depth fits (record { name = Some name; imports = unwrap_or found []; rules = rules }) (λ r i. r))))
+          (λ rules. done_reading depth fits (record { name = Some name; imports = unwrap_or found []; rules = rules }) (λ r i. r))))
           (λ m. after_reading depth fits kind.CloseBrace (done_reading depth fits m (λ r f. r)))))
 
       pub module_reading : IsReading depth fits (module_word p) IsWrittenModule

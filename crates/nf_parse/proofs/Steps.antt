@@ -1,10 +1,10 @@
 -- Single steps of the reader.
-use Rattle.std.proofs.Common.{◌≡◌, ◌<◌, ◌-◌, ℕ, zero, suc, true, false, cond, List, [], ◌∷◌, length, refl, sym, ap, ◌∙◌, subst, arith, Some, None, Ok, Err}
+use Rattle.std.proofs.Common.{◌≡◌, ◌<◌, ◌-◌, ℕ, zero, suc, true, false, cond, List, [], ◌∷◌, length, refl, ap, subst, arith, Some, None, Ok}
 use Rattle.nf_parse.specs.declared.symbol.Sym.{Sym}
 use Rattle.nf_parse.specs.declared.symbol.Sym.TheVariants as kind
 use Rattle.nf_parse.specs.Reading.{expression, paren}
 use Rattle.nf_parse.specs.State.{Word, State, state, next, next_of}
-use Rattle.nf_parse.specs.Parsers.{Outcome, Parser, refuse, too_deep, is_at, bytes_of, tail_of, behind, token, use_up, operator, enclosed}
+use Rattle.nf_parse.specs.Parsers.{refuse, too_deep, is_at, bytes_of, tail_of, behind, token, use_up, operator, enclosed}
 
 pub token_read : (k : Sym) (s : State) → is_at k s ≡ true → token k s ≡ Ok (bytes_of s.words, behind s)
 unfolding token

@@ -1,18 +1,16 @@
 -- Signs and operands without operators read what their relations have.
-use Rattle.std.proofs.Common.{◌≡◌, ◌≤◌, ℕ, zero, suc, pos, Bool, true, false, List, [], ◌∷◌, refl, sym, ap, ◌∙◌, subst, arith, Option, Some, None, Ok, Err}
-use Rattle.std.specs.Str.Parse.{digits_value}
+use Rattle.std.proofs.Common.{◌≡◌, ◌≤◌, ℕ, zero, suc, List, refl, ◌∙◌, subst, arith, Option, Some, None, Ok}
 use Rattle.nf_core.specs.declared.trees.Expr.{Expr}
 use Rattle.nf_core.specs.declared.trees.Expr.TheVariants as node
-use Rattle.nf_lex.specs.Faults.{body_of}
 use Rattle.nf_parse.specs.declared.symbol.Sym.{Sym}
 use Rattle.nf_parse.specs.declared.symbol.Sym.TheVariants as kind
 use Rattle.nf_parse.specs.State.{State, next}
-use Rattle.nf_parse.specs.Combinators.{Relation, Operator, Token}
+use Rattle.nf_parse.specs.Combinators.{Relation}
 use Rattle.nf_parse.specs.Grammar as grammar
 use Rattle.nf_parse.specs.Grammar.{Primary, Unary}
-use Rattle.nf_parse.specs.Parsers.{Outcome, Parser, bind, and_then, done, too_deep, token, after, operator, at_operator}
-use Rattle.nf_parse.specs.Reading.{sign_of, unary_from, unary, member_at, member, read, primary_at, primary}
-use Rattle.nf_parse.proofs.Exact.{IsExact, IsSpending, always, ok_same, bound, then_is, token_exact, token_next, token_spending, operator_sound, operator_complete, operator_next}
+use Rattle.nf_parse.specs.Parsers.{Parser, and_then, done, too_deep, operator, at_operator}
+use Rattle.nf_parse.specs.Reading.{sign_of, unary_from, unary}
+use Rattle.nf_parse.proofs.Exact.{IsExact, IsSpending, ok_same, bound, then_is, operator_sound, operator_complete, operator_next}
 
 -- a sign by its kind
 data Signed : Option Sym → (Expr → Expr) → Type 0 where
@@ -40,11 +38,11 @@ module _ (p : Parser Expr) (R : Relation Expr) (stop : Option Sym → Type 0) (f
   from_sound zero s t x h = by_sign s t x (λ sign. too_deep) (λ sign i h. cc) h
   from_sound (suc turns) s t x h = by_sign s t x (λ sign. and_then operator (λ word. and_then (unary_from p turns) (λ y. done (sign y))))
       (λ sign i h.
-          let a = bound (operator s) (λ word. and_then (unary_from p turns) (λ y. done (sign y))) x t h in
-          let b = bound (unary_from p turns a.middle) (λ y. done (sign y)) x t a.rest in
-          let r = ok_same (sign b.given, b.middle) (x, t) (Ok (sign b.given, b.middle)) refl b.rest in
-          subst (λ (r : Expr × State). Unary R s r.0 r.1) r
-          (sign_sound (next s) sign s a.middle b.middle b.given i refl a.given a.first (from_sound turns a.middle b.middle b.given b.first))) h
+      let a = bound (operator s) (λ word. and_then (unary_from p turns) (λ y. done (sign y))) x t h in
+      let b = bound (unary_from p turns a.middle) (λ y. done (sign y)) x t a.rest in
+      let r = ok_same (sign b.given, b.middle) (x, t) (Ok (sign b.given, b.middle)) refl b.rest in
+      subst (λ (r : Expr × State). Unary R s r.0 r.1) r
+      (sign_sound (next s) sign s a.middle b.middle b.given i refl a.given a.first (from_sound turns a.middle b.middle b.given b.first))) h
 
   module _ (starts : (s t : State) (x : Expr) → R s x t → sign_of (next s) ≡ None) where
     from_complete : (turns : ℕ) (s t : State) (x : Expr) → Unary R s x t → s.operators ≤ turns → stop (next t) → unary_from p turns s ≡ Ok (x, t)

@@ -8,3 +8,4 @@ pub mod Parts
 pub mod RuleReading
 pub mod Parses
 pub mod FileReading
+pub mod Lexical

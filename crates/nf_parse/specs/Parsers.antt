@@ -1,7 +1,6 @@
 -- Parsers: the reader as functions on states. Contracts of private functions say that they are these; proofs/ shows that these read what the grammar has.
-use Rattle.std.specs.Prelude.{◌≡◌, ◌≤◌, ℕ, zero, suc, Bool, true, false, List, [], ◌∷◌, length, if◌then◌else◌, Option, Some, None, Result, Ok, Err}
+use Rattle.std.specs.Prelude.{◌≡◌, ◌≤◌, ℕ, zero, suc, Bool, false, List, [], ◌∷◌, length, if◌then◌else◌, Option, Some, None, Result, Ok, Err}
 use denote.Enum.Bare.{sameb}
-use Rattle.nf_core.specs.declared.operators.BinOp.{BinOp}
 use Rattle.nf_parse.specs.contracts.symbol.Sym.{the_type}
 use Rattle.nf_parse.specs.declared.symbol.Sym.{Sym}
 use Rattle.nf_parse.specs.declared.fault.Fault.{Fault}

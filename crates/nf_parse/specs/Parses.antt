@@ -1,5 +1,5 @@
 -- The answer to a source: its modules, or why it has none.
-use Rattle.std.specs.Prelude.{◌≡◌, ◌-◌, ℕ, List, length, slice_get, Option, Some, None, Result, Ok, Err}
+use Rattle.std.specs.Prelude.{◌-◌, ℕ, List, length, slice_get, Option, Some, None, Result, Ok, Err}
 use Rattle.nf_core.specs.declared.trees.Module.{Module}
 use Rattle.nf_lex.specs.declared.fault.LexFault.{LexFault}
 use Rattle.nf_lex.specs.declared.token.Token.{Token}

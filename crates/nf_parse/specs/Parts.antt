@@ -1,8 +1,8 @@
 -- Parsers of the parts of rules: a choice by the next word, an optional part, a list, a repetition.
-use Rattle.std.specs.Prelude.{ℕ, zero, suc, Bool, true, false, List, [], ◌∷◌, length, if◌then◌else◌, Option, Some, None, Result, Ok, Err}
+use Rattle.std.specs.Prelude.{ℕ, zero, suc, Bool, List, [], ◌∷◌, length, if◌then◌else◌, Option, Some, None, Ok, Err}
 use Rattle.nf_parse.specs.declared.symbol.Sym.{Sym}
-use Rattle.nf_parse.specs.State.{State, next}
-use Rattle.nf_parse.specs.Parsers.{Outcome, Parser, behind, bind, and_then, done, is_sym, is_at, refuse, token, after, in_table, at_operator}
+use Rattle.nf_parse.specs.State.{next}
+use Rattle.nf_parse.specs.Parsers.{Outcome, Parser, behind, bind, and_then, is_sym, is_at, refuse, after, in_table, at_operator}
 
 -- a word that a table has, and then what may look at what stands there
 unfoldable pub one_of : {A : Type 0} → (Sym → Option A) → Parser A

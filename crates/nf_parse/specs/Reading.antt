@@ -9,8 +9,8 @@ use Rattle.nf_parse.specs.declared.level.Level.{Level}
 use Rattle.nf_parse.specs.declared.level.Level.TheVariants as level
 use Rattle.nf_parse.specs.declared.symbol.Sym.{Sym}
 use Rattle.nf_parse.specs.declared.symbol.Sym.TheVariants as sym
-use Rattle.nf_parse.specs.State.{State, next}
-use Rattle.nf_parse.specs.Parsers.{Outcome, Parser, and_then, done, token, after, enclosed, refuse, too_deep, is_at, operator, in_table, at_operator}
+use Rattle.nf_parse.specs.State.{next}
+use Rattle.nf_parse.specs.Parsers.{Parser, and_then, done, token, after, enclosed, refuse, too_deep, is_at, operator, in_table, at_operator}
 use Rattle.nf_parse.specs.Grammar.{op_at}
 
 module _ (table : Sym → Option BinOp) (operand : Parser Expr) where
@@ -70,7 +70,6 @@ module _ (prim : Parser Expr) where
   unary s = unary_from s.operators s
 
 module _ (paren : Parser Expr) where
-
   abbrev pub product : Parser Expr
   product = chain (op_at level.Product) (unary (primary paren))
 

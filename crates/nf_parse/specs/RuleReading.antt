@@ -1,7 +1,5 @@
 -- The reader of rules, modules and files as functions on states, over a reader of expressions.
-use Rattle.std.specs.Prelude.{ℕ, Bool, true, false, ◌||◌, not, List, [], ◌∷◌, Option, Some, None, is_some, is_none, unwrap_or, Result, Ok, Err}
-use Rattle.nf_core.specs.declared.operators.Op.{Op}
-use Rattle.nf_core.specs.declared.operators.Xop.{Xop}
+use Rattle.std.specs.Prelude.{ℕ, Bool, ◌||◌, not, List, [], Option, Some, is_some, unwrap_or}
 use Rattle.nf_core.specs.declared.trees.Expr.{Expr}
 use Rattle.nf_core.specs.declared.trees.Atom.{Atom}
 use Rattle.nf_core.specs.declared.trees.Body.{Body}
@@ -12,7 +10,6 @@ use Rattle.nf_core.specs.declared.trees.Module.{Module}
 use Rattle.nf_parse.specs.declared.symbol.Sym.{Sym}
 use Rattle.nf_parse.specs.declared.symbol.Sym.TheVariants.{Ident, Import, Where, Map, Begin, End, Unless, Defines, Arrow, OpenBrace, CloseBrace, Comma, Semicolon, Colon}
 use Rattle.nf_parse.specs.declared.symbol.Sym.TheVariants as sym
-use Rattle.nf_parse.specs.State.{State, next}
 use Rattle.nf_parse.specs.Grammar.{op_of, xop_of, atom_of, Item, loose, named, unnamed, modules_of}
 use Rattle.nf_parse.specs.Parsers.{Parser, and_then, done, is_sym, token, after, enclosed, whole, in_table}
 use Rattle.nf_parse.specs.Answers.{most_open}

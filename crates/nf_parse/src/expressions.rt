@@ -17,11 +17,7 @@ use sqlite_items::Boxed;
 use std::alloc::Global;
 
 /// An expression, in which at most so many parentheses are open at once.
-pub(crate) fn expression(
-    alloc: Global,
-    depth: usize,
-    reader: &mut Reader<'_>,
-) -> Result<Expr, Halt>
+pub(crate) fn expression(alloc: Global, depth: usize, reader: &mut Reader<'_>) -> Result<Expr, Halt>
     ensures reads { Reads (spec.expression (spec.paren depth) reader.old) result reader.new }
     ensures within { IsWithin reader.old reader.new }
 {
@@ -30,12 +26,7 @@ pub(crate) fn expression(
 
 /// Operands with operators of a level between them, left associative.
 #[cycle(parser)]
-fn chain(
-    alloc: Global,
-    level: Level,
-    depth: usize,
-    reader: &mut Reader<'_>,
-) -> Result<Expr, Halt>
+fn chain(alloc: Global, level: Level, depth: usize, reader: &mut Reader<'_>) -> Result<Expr, Halt>
     ensures reads { Reads (spec.chain (grammar.op_at level) (spec.operand (spec.paren depth) level) reader.old) result reader.new }
     ensures within { IsWithin reader.old reader.new }
 {
@@ -48,12 +39,7 @@ fn chain(
 
 /// An operand of the operators of a level.
 #[cycle(parser)]
-fn operand(
-    alloc: Global,
-    level: Level,
-    depth: usize,
-    reader: &mut Reader<'_>,
-) -> Result<Expr, Halt>
+fn operand(alloc: Global, level: Level, depth: usize, reader: &mut Reader<'_>) -> Result<Expr, Halt>
     ensures reads { Reads (spec.operand (spec.paren depth) level reader.old) result reader.new }
     ensures within { IsWithin reader.old reader.new }
 {
@@ -83,11 +69,7 @@ fn right_of(
 {
     reader.operator()?;
     let right = operand(alloc, level, depth, reader)?;
-    Ok(Expr::Bin(
-        op,
-        Boxed::new(alloc, left)?,
-        Boxed::new(alloc, right)?,
-    ))
+    Ok(Expr::Bin(op, Boxed::new(alloc, left)?, Boxed::new(alloc, right)?))
 }
 
 /// A sum, or two with a comparison between them.

@@ -24,6 +24,20 @@ pub enum ParseFault {
     NoMemory,
 }
 
+impl From<LexFault> for ParseFault {
+    ghost use Rattle.std.specs.Prelude.{◌≡◌};
+    ghost use Rattle.nf_parse.specs.Lexical.{of_lexical};
+
+    ghost from_gives = { λ error fault. fault ≡ of_lexical error };
+
+    fn from(error: LexFault) -> ParseFault {
+        match error {
+            LexFault::NoMemory => ParseFault::NoMemory,
+            fault => ParseFault::Lex(fault),
+        }
+    }
+}
+
 /// Where a reader stops that can't go on, by how many words are left there.
 #[derive(Debug, Clone, Copy, PartialEq, Eq)]
 pub(crate) enum Fault {

@@ -9,8 +9,8 @@
 mod clauses;
 mod expressions;
 mod fault;
-mod level;
 mod laws;
+mod level;
 mod literals;
 mod modules;
 mod operators;

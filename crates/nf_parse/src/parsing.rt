@@ -16,8 +16,8 @@ use crate::fault::{Fault, Halt, ParseFault};
 use crate::modules::file;
 use crate::places::line_left;
 use crate::reader::Reader;
-use nf_core::{trees_by_parts, ModuleList};
-use nf_lex::{division_is_one, tokens, tokens_are_written, LexFault, Token, Tokens};
+use nf_core::{ModuleList, trees_by_parts};
+use nf_lex::{Token, Tokens, division_is_one, tokens, tokens_are_written};
 use std::alloc::Global;
 
 /// How many operators an expression may have.
@@ -50,19 +50,12 @@ fn answer(alloc: Global, source: &[u8]) -> Result<ModuleList, ParseFault>
     ensures written { IfOk result (λ modules. All IsWritten (flat_map (λ (m : Module). m.rules) modules)) }
     ensures few { IfOk result (λ modules. length (flat_map (λ (m : Module). m.rules) modules) ≤ length source.now) }
 {
-    match tokens(alloc, source) {
-        Ok(found) => answer_of(alloc, source, &found),
-        Err(LexFault::NoMemory) => Err(ParseFault::NoMemory),
-        Err(fault) => Err(ParseFault::Lex(fault)),
-    }
+    let found = tokens(alloc, source)?;
+    answer_of(alloc, source, &found)
 }
 
 /// The answer to a source that has these tokens.
-fn answer_of(
-    alloc: Global,
-    source: &[u8],
-    found: &Tokens,
-) -> Result<ModuleList, ParseFault>
+fn answer_of(alloc: Global, source: &[u8], found: &Tokens) -> Result<ModuleList, ParseFault>
     requires divides { Divides source.now 0 (Ok found.now) }
     requires each { All (IsTokenOf source.now) found.now }
     requires laid_out { AreLaidOut source.now 0 found.now }
@@ -76,11 +69,7 @@ fn answer_of(
 }
 
 /// What is read of the tokens of a source.
-fn read(
-    alloc: Global,
-    source: &[u8],
-    tokens: &[Token],
-) -> Result<ModuleList, ParseFault>
+fn read(alloc: Global, source: &[u8], tokens: &[Token]) -> Result<ModuleList, ParseFault>
     requires { All (IsTokenOf source.now) tokens.now }
     ensures { Answers source.now tokens.now result }
 {

@@ -4,7 +4,7 @@ ghost use Rattle.std.specs.Prelude.{◌≡◌, All};
 ghost use Rattle.nf_lex.specs.Layout.{IsTokenOf};
 ghost use Rattle.nf_parse.specs.Parses.{line_left};
 
-use nf_lex::{line_at, Token};
+use nf_lex::{Token, line_at};
 
 /// The line of the token of which so many are left, itself counted, or of the end of the source,
 /// where none is.

@@ -1,4 +1,4 @@
-use Rattle.std.proofs.Common.{ℕ, ◌+◌, ◌*◌, length}
+use Rattle.std.proofs.Common.{◌+◌, ◌*◌, length}
 use Rattle.nf_parse.specs.Grammar.{op_at}
 use Rattle.nf_parse.specs.Reading as spec
 use Rattle.nf_parse.proofs.Loops.{operand_rank, IsChainAt}
