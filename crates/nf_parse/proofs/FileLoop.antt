@@ -175,7 +175,7 @@ module _ (p : Parser Expr) (short : IsShorter (rule p)) where
   listed_run n turns rec s u t x rs (Ok read) l k h e g i =
       let j = ok_value (x ∷ read.0) rs read.1 t i in
       subst (λ ys. IsRunOf (suc turns) s t ys) j.0 (subst (λ v. IsRunOf (suc turns) s v (x ∷ read.0)) j.1
-          (more_run turns s u read.1 x read.0 h e (rec turns u read.1 read.0 (omega (arith, short.fewer s u x e)) (omega (arith, short.fewer s u x e)) g)))
+      (more_run turns s u read.1 x read.0 h e (rec turns u read.1 read.0 (omega (arith, short.fewer s u x e)) (omega (arith, short.fewer s u x e)) g)))
   listed_run n turns rec s u t x rs (Err f) l k h e g i = absurd (fault_read (List Rule) f rs t i)
 
   turn_run : (n turns : ℕ) → Runs n → (s t : State) (rs : List Rule) (b : Bool) (o : Outcome Rule) → length s.words ≤ suc n → length s.words ≤ turns → is_ident (next s) ≡ b → rule p s ≡ o

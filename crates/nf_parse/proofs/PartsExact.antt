@@ -61,7 +61,7 @@ done_exact x stop = record {
 
 -- one part after another
 module _ {A B : Type 0} {p : Parser A} {k : A → Parser B} {R : Relation A} {K : A → Relation B} {first stop first_rest stop_rest : Next}
-  (part : IsExactPart p R first stop) (rest : (x : A) → IsExactPart (k x) (K x) first_rest stop_rest) (joins : (n : Option Sym) → first_rest n → stop n) where
+    (part : IsExactPart p R first stop) (rest : (x : A) → IsExactPart (k x) (K x) first_rest stop_rest) (joins : (n : Option Sym) → first_rest n → stop n) where
   then_sound : (s t : State) (y : B) (o : Outcome A) → p s ≡ o → bind o k ≡ Ok (y, t) → Then R K s y t
   then_sound s t y (Ok read) e f = record { given = read.0; middle = read.1; first = part.sound s read.1 read.0 e; rest = (rest read.0).sound read.1 t y f }
   then_sound s t y (Err f) e g = absurd (no_ok f (y, t) g)
@@ -101,7 +101,7 @@ module _ {A : Type 0} (table : Sym → Option A) where
 
 -- one part or another, by the next word
 module _ {A : Type 0} {test : Option Sym → Bool} {p q : Parser A} {R Q : Relation A} {first other stop : Next}
-  (yes : IsExactPart p R first stop) (no : IsExactPart q Q other stop) (takes : (n : Option Sym) → first n → test n ≡ true) (leaves : (n : Option Sym) → other n → test n ≡ false) where
+    (yes : IsExactPart p R first stop) (no : IsExactPart q Q other stop) (takes : (n : Option Sym) → first n → test n ≡ true) (leaves : (n : Option Sym) → other n → test n ≡ false) where
   choose_sound : (s t : State) (x : A) (b : Bool) → cond b (p s) (q s) ≡ Ok (x, t) → Either R Q s x t
   choose_sound s t x true e = left (yes.sound s t x e)
   choose_sound s t x false e = right (no.sound s t x e)
@@ -121,7 +121,7 @@ module _ {A : Type 0} {test : Option Sym → Bool} {p q : Parser A} {R Q : Relat
 
 -- [ part ]
 module _ {A : Type 0} {k : Sym} {p : Parser A} {R : Relation A} {first stop_part stop : Next}
-  (part : IsExactPart p R first stop_part) (starts : (n : Option Sym) → first n → n ≡ Some k) (stops : (n : Option Sym) → stop n → stop_part n) (leaves : (n : Option Sym) → stop n → is_sym n k ≡ false) where
+    (part : IsExactPart p R first stop_part) (starts : (n : Option Sym) → first n → n ≡ Some k) (stops : (n : Option Sym) → stop n → stop_part n) (leaves : (n : Option Sym) → stop n → is_sym n k ≡ false) where
   some_sound : (s t : State) (x : Option A) (o : Outcome A) → p s ≡ o → in_some o ≡ Ok (x, t) → Optional R s x t
   some_sound s t x (Ok read) e f =
       let g = ok_value (Some read.0) x read.1 t f in
@@ -155,9 +155,8 @@ pub record IsShorter {A : Type 0} (p : Parser A) : Type 0 where
 
 -- { part }
 module _ {A : Type 0} {test : Option Sym → Bool} {p : Parser A} {R : Relation A} {first stop_part stop : Next}
-  (part : IsExactPart p R first stop_part) (short : IsShorter p) (again : (n : Option Sym) → first n → stop_part n) (stops : (n : Option Sym) → stop n → stop_part n)
-  (takes : (n : Option Sym) → first n → test n ≡ true) (leaves : (n : Option Sym) → stop n → test n ≡ false) where
-
+    (part : IsExactPart p R first stop_part) (short : IsShorter p) (again : (n : Option Sym) → first n → stop_part n) (stops : (n : Option Sym) → stop n → stop_part n)
+    (takes : (n : Option Sym) → first n → test n ≡ true) (leaves : (n : Option Sym) → stop n → test n ≡ false) where
   list_sound : (s u t : State) (x : A) (xs : List A) (o : Outcome (List A)) → R s x u → ((ys : List A) (v : State) → o ≡ Ok (ys, v) → Repeated R u ys v) → in_list x o ≡ Ok (xs, t) → Repeated R s xs t
   list_sound s u t x xs (Ok read) w later e =
       let g = ok_value (x ∷ read.0) xs read.1 t e in
@@ -225,12 +224,18 @@ module _ {A : Type 0} (separator : Sym) (R : Relation A) where
   parted s u _ (one {x} w) = record { x = x; later = []; is = refl; middle = u; word = w; rest = none }
   parted s u _ (more {t} {u = v} {x} {bytes} {xs} w k rest) =
       let p = parted v u xs rest in
-      record { x = x; later = xs; is = refl; middle = t; word = w;
-        rest = subst (λ ys. Repeated (After separator R) t ys u) (sym p.is) (some (record { given = bytes; middle = v; first = k; rest = p.word }) p.rest) }
+      record {
+        x = x;
+        later = xs;
+        is = refl;
+        middle = t;
+        word = w;
+        rest = subst (λ ys. Repeated (After separator R) t ys u) (sym p.is) (some (record { given = bytes; middle = v; first = k; rest = p.word }) p.rest);
+      }
 
 module _ {A : Type 0} {separator : Sym} {p : Parser A} {R : Relation A} {first stop_part stop : Next}
-  (part : IsExactPart p R first stop_part) (short : IsShorter (next_part separator p)) (again : stop_part (Some separator)) (stops : (n : Option Sym) → stop n → stop_part n)
-  (leaves : (n : Option Sym) → stop n → is_sym n separator ≡ false) where
+    (part : IsExactPart p R first stop_part) (short : IsShorter (next_part separator p)) (again : stop_part (Some separator)) (stops : (n : Option Sym) → stop n → stop_part n)
+    (leaves : (n : Option Sym) → stop n → is_sym n separator ≡ false) where
   behind_exact : IsExactPart (next_part separator p) (After separator R) (λ n. n ≡ Some separator) stop_part
   behind_exact = then_exact (token_exact separator) (λ bytes. part) (λ n h. tt)
 
@@ -244,7 +249,7 @@ module _ {A : Type 0} {separator : Sym} {p : Parser A} {R : Relation A} {first s
       go (Ok later) g f =
           let i = ok_value (read.0 ∷ later.0) xs later.1 t f in
           subst (λ ys. Separated separator R s ys t) i.0 (subst (λ u. Separated separator R s (read.0 ∷ later.0) u) i.1
-              (list_of separator R s read.1 later.1 read.0 later.0 (part.sound s read.1 read.0 e) (later_exact.sound read.1 later.1 later.0 g)))
+          (list_of separator R s read.1 later.1 read.0 later.0 (part.sound s read.1 read.0 e) (later_exact.sound read.1 later.1 later.0 g)))
       go (Err f) g i = absurd (no_ok f (xs, t) i)
   separated_sound s t xs (Err f) e g = absurd (no_ok f (xs, t) g)
 

@@ -160,7 +160,7 @@ module _ (depth : ℕ) (fits : Word → Type 0) where
 
   -- one part after another
   module _ {A B : Type 0} {p : Parser A} {k : A → Parser B} {Fine : A → Type 0} {Good : B → Type 0}
-    (part : IsReading depth fits p Fine) (rest : (x : A) → IsReading depth fits (k x) (λ y. Fine x → Good y)) where
+      (part : IsReading depth fits p Fine) (rest : (x : A) → IsReading depth fits (k x) (λ y. Fine x → Good y)) where
     then_behind : (s t : State) (y : B) (o : Outcome A) → p s ≡ o → bind o k ≡ Ok (y, t) → IsBehind s t
     then_behind s t y (Ok read) e f = further s read.1 t (part.behind s read.1 read.0 e) ((rest read.0).behind read.1 t y f)
     then_behind s t y (Err f) e g = absurd (no_read f y t g)

@@ -136,7 +136,7 @@ module _ (IsName : List ℕ → Type 0) (IsWrittenExpr : Expr → Type 0) where
           then_reading depth fits (optional_reading depth fits kind.Where (clause_reading kind.Where)) (λ filter. then_reading depth fits (optional_reading depth fits kind.Map entries_reading) (λ mapped.
           then_reading depth fits (optional_reading depth fits kind.Begin (clause_reading kind.Begin)) (λ start. then_reading depth fits (optional_reading depth fits kind.End (clause_reading kind.End)) (λ stop.
           done_reading depth fits (rule_of head body filter (unwrap_or mapped []) start stop)
-              (λ t s m f b h. written_rule head body filter (unwrap_or mapped []) start stop h b f (written_list mapped m) s t)))))))
+          (λ t s m f b h. written_rule head body filter (unwrap_or mapped []) start stop h b f (written_list mapped m) s t)))))))
 
       pub rule_reading : IsReading depth fits (rule p) IsGoodRule
       unfolding rule
@@ -157,7 +157,7 @@ module _ (IsName : List ℕ → Type 0) (IsWrittenExpr : Expr → Type 0) where
       module_rest_reading : IsReading depth fits module_rest IsWrittenModule
       module_rest_reading = then_reading depth fits (token_reading depth fits kind.Ident) (λ name.
           after_reading depth fits kind.OpenBrace (then_reading depth fits (then_reading depth fits (optional_reading depth fits kind.Import imports_reading) (λ found. then_reading depth fits rules_reading
-              (λ rules. done_reading depth fits (record { name = Some name; imports = unwrap_or found []; rules = rules }) (λ r i. r))))
+          (λ rules. done_reading depth fits (record { name = Some name; imports = unwrap_or found []; rules = rules }) (λ r i. r))))
           (λ m. after_reading depth fits kind.CloseBrace (done_reading depth fits m (λ r f. r)))))
 
       pub module_reading : IsReading depth fits (module_word p) IsWrittenModule

@@ -15,6 +15,8 @@ mod modules;
 mod operators;
 mod parsing;
 mod reader;
+#[cfg(test)]
+mod rule_tests;
 mod rules;
 mod symbol;
 mod symbols;

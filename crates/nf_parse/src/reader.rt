@@ -18,6 +18,7 @@ use std::marker::Model;
 /// Where a reading of tokens stands: the tokens of the source that are left, what the next one is, and
 /// how many operators the expression there may still have. Contracts see the words that are left and
 /// that number.
+#[derive(Drop)]
 pub(crate) struct Reader<'a> {
     source: &'a [u8],
     tokens: &'a [Token],

@@ -15,9 +15,10 @@ IsLimited entry = IsWithinLimits (tree entry.value)
 
 pub entries-init : goal.entries-init
 entries-init c = rw (c.in_ok-push.ensures.ok, c.new-entries.ensures) (
-    separated_start kind.Comma (spec.entry spec.limited) c.args.reader.now c.entry.new.reader c.in_ok-first.first c.in_ok-first.ensures.reads,
-    c.in_ok-first.ensures.within,
-    All-cons IsLimited c.in_ok-first.first [] c.in_ok-first.ensures.limits (All-nil IsLimited))
+  separated_start kind.Comma (spec.entry spec.limited) c.args.reader.now c.entry.new.reader c.in_ok-first.first c.in_ok-first.ensures.reads,
+  c.in_ok-first.ensures.within,
+  All-cons IsLimited c.in_ok-first.first [] c.in_ok-first.ensures.limits (All-nil IsLimited),
+)
 
 pub returns-in_err-entry-clause-reads : goal.returns-in_err-entry-clause-reads
 returns-in_err-entry-clause-reads c =
@@ -28,10 +29,11 @@ returns-in_err-entry-clause-reads c =
 
 pub entries-preserved : goal.entries-preserved
 entries-preserved c = rw c.in_ok-push-2.ensures.ok (
-    list_more (λ n. is_sym n kind.Comma) (parts.next_part kind.Comma (spec.entry spec.limited)) _ c.entries.entries c.entries.reader c.next_entry.new.reader c.in_ok-entry.entry
-        c.entries.invariant.0 (sym c.is_at.ensures ∙ c.entries-test.true) c.in_ok-entry.ensures.reads c.in_ok-entry.ensures.shorter,
-    within_more c.args.reader.now c.entries.reader c.next_entry.new.reader c.entries.invariant.1 c.in_ok-entry.ensures.within,
-    All-push IsLimited c.entries.entries c.in_ok-entry.entry c.entries.invariant.2 c.in_ok-entry.ensures.limits)
+  list_more (λ n. is_sym n kind.Comma) (parts.next_part kind.Comma (spec.entry spec.limited)) _ c.entries.entries c.entries.reader c.next_entry.new.reader c.in_ok-entry.entry
+      c.entries.invariant.0 (sym c.is_at.ensures ∙ c.entries-test.true) c.in_ok-entry.ensures.reads c.in_ok-entry.ensures.shorter,
+  within_more c.args.reader.now c.entries.reader c.next_entry.new.reader c.entries.invariant.1 c.in_ok-entry.ensures.within,
+  All-push IsLimited c.entries.entries c.in_ok-entry.entry c.entries.invariant.2 c.in_ok-entry.ensures.limits,
+)
 
 pub returns-clause-reads : goal.returns-clause-reads
 returns-clause-reads c = list_ends (λ n. is_sym n kind.Comma) (parts.next_part kind.Comma (spec.entry spec.limited)) _ c.entries.entries c.entries.reader c.entries.invariant.0 (sym c.is_at.ensures ∙ c.entries-test.false)

@@ -8,8 +8,9 @@ use Rattle.nf_parse.proofs.modules.name_list.Goals as goal
 
 pub names-init : goal.names-init
 names-init c = rw (c.in_ok-push.ensures.ok, c.new-names.ensures) (
-    separated_start kind.Comma (token kind.Ident) c.args.reader.now c.name.new.reader c.in_ok-first.first c.in_ok-first.ensures.reads,
-    c.in_ok-first.ensures.within)
+  separated_start kind.Comma (token kind.Ident) c.args.reader.now c.name.new.reader c.in_ok-first.first c.in_ok-first.ensures.reads,
+  c.in_ok-first.ensures.within,
+)
 
 pub returns-in_err-first-clause-reads : goal.returns-in_err-first-clause-reads
 returns-in_err-first-clause-reads c =
@@ -27,9 +28,10 @@ returns-in_err-name-clause-reads c =
 
 pub names-preserved : goal.names-preserved
 names-preserved c = rw c.in_ok-push-2.ensures.ok (
-    list_more (λ n. is_sym n kind.Comma) (parts.next_part kind.Comma (token kind.Ident)) _ c.names.names c.names.reader c.next_name.new.reader c.in_ok-name.name
-        c.names.invariant.0 (sym c.is_at.ensures ∙ c.names-test.true) c.in_ok-name.ensures.reads c.in_ok-name.ensures.shorter,
-    within_more c.args.reader.now c.names.reader c.next_name.new.reader c.names.invariant.1 c.in_ok-name.ensures.within)
+  list_more (λ n. is_sym n kind.Comma) (parts.next_part kind.Comma (token kind.Ident)) _ c.names.names c.names.reader c.next_name.new.reader c.in_ok-name.name
+      c.names.invariant.0 (sym c.is_at.ensures ∙ c.names-test.true) c.in_ok-name.ensures.reads c.in_ok-name.ensures.shorter,
+  within_more c.args.reader.now c.names.reader c.next_name.new.reader c.names.invariant.1 c.in_ok-name.ensures.within,
+)
 
 pub returns-clause-reads : goal.returns-clause-reads
 returns-clause-reads c = list_ends (λ n. is_sym n kind.Comma) (parts.next_part kind.Comma (token kind.Ident)) _ c.names.names c.names.reader c.names.invariant.0 (sym c.is_at.ensures ∙ c.names-test.false)
