@@ -17,6 +17,8 @@ mod operators;
 mod parsing;
 mod places;
 mod reader;
+#[cfg(test)]
+mod rule_tests;
 mod rules;
 mod symbol;
 mod symbols;
