@@ -7,6 +7,8 @@
 #![tactic(auto)]
 
 mod clauses;
+#[cfg(test)]
+mod expression_tests;
 mod expressions;
 mod fault;
 mod laws;
