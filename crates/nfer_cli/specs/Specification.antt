@@ -3,7 +3,8 @@ use Rattle.std.specs.Prelude.{◌≡◌, ℕ, Bool, true, not, ◌&&◌, List, [
 use Rattle.std.specs.List.{list_any, list_all}
 use Rattle.nf_core.specs.Identifiers.{is_identifier}
 use Rattle.nf_core.specs.Plan.{Plan}
-use Rattle.nf_core.specs.Written.{atoms_of, plan_of, Levels, AreLevels}
+use Rattle.nf_core.specs.Trees.{atoms_of}
+use Rattle.nf_core.specs.Written.{plan_of, Levels, AreLevels}
 use Rattle.nf_core.specs.declared.operators.Op.TheVariants.{Before}
 use Rattle.nf_core.specs.declared.trees.Atom.{Atom}
 use Rattle.nf_core.specs.declared.trees.Body.{Body}
