@@ -1,3 +1,4 @@
 pub mod Fronts
 pub mod Parts
 pub mod Spelled
+pub mod SpelledRule
