@@ -2,3 +2,4 @@ pub mod Fronts
 pub mod Parts
 pub mod Spelled
 pub mod SpelledRule
+pub mod ReadWords
