@@ -3,3 +3,4 @@ pub mod Parts
 pub mod Spelled
 pub mod SpelledRule
 pub mod ReadWords
+pub mod ReadExpression
