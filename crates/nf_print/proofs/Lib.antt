@@ -4,3 +4,4 @@ pub mod Spelled
 pub mod SpelledRule
 pub mod ReadWords
 pub mod ReadExpression
+pub mod ReadRule
