@@ -5,3 +5,4 @@ pub mod SpelledRule
 pub mod ReadWords
 pub mod ReadExpression
 pub mod ReadRule
+pub mod Line

@@ -7,7 +7,9 @@
 #![tactic(auto)]
 
 mod expressions;
+mod laws;
 mod printing;
 mod words;
 
+pub use laws::canonical_lines_are_read;
 pub use printing::print;

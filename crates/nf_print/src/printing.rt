@@ -9,6 +9,7 @@ ghost use Rattle.nf_parse.specs.Answers.{Spells};
 ghost use Rattle.nf_print.specs.Canonical.{canonical, atom_text, body_text, clause_text, entry_text, map_text};
 
 use crate::expressions::push_expression;
+use crate::laws::canonical_lines_are_read;
 use crate::words::{word_of_op, word_of_xop};
 use nf_core::{Atom, Body, Entry, Expr, Lines, NoMemory, Rule};
 use std::alloc::Global;
@@ -21,7 +22,9 @@ use std::alloc::Global;
 pub fn print(alloc: Global, rule: &Rule) -> Result<Lines, NoMemory>
     requires { IsWritten rule.now }
     ensures line { IfOk result (λ lines. lines ≡ canonical rule.now) }
+    ensures read { IfOk result (λ lines. Spells lines (unnamed (rule.now ∷ []) ∷ [])) }
 {
+    canonical_lines_are_read();
     let mut lines = Lines::new(alloc);
     lines.push(rule.head.as_str().as_bytes())?;
     lines.push(b" :- ")?;
