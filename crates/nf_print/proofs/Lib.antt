@@ -6,3 +6,4 @@ pub mod ReadWords
 pub mod ReadExpression
 pub mod ReadRule
 pub mod Line
+pub mod Worked

@@ -36,7 +36,7 @@ five_parts : (x m y rest : List ℕ) → (x ++ codes " " ++ m ++ codes " " ++ y)
 five_parts x m y rest = simp append_assoc refl
 
 -- a decimal is a number
-digits_model : IsNumeralModel (λ ds. list_all is_ascii_digit ds ≡ true) (digits_value 10)
+pub digits_model : IsNumeralModel (λ ds. list_all is_ascii_digit ds ≡ true) (digits_value 10)
 digits_model = numerals_by_value (λ ds. list_all is_ascii_digit ds ≡ true) (search rules)
 
 decimal_number : (n : ℕ) → n < 2 ^ 63 → is_number (decimal n) ≡ true
