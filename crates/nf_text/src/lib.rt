@@ -3,7 +3,7 @@
 //! Nothing here takes memory. What a text spells is `spelling_of` in specs/Value.antt, which texts are
 //! times is `time_of` in specs/Time.antt, and the fields of a text are `fields_of` in
 //! specs/Fields.antt. The lexer and the readers of trace lines and of monitor texts stand on this
-//! crate, and it stands on none of the project.
+//! crate, and it stands on nf_core, whose plain texts are those that it tests.
 #![tactic(auto)]
 
 mod cursor;
