@@ -7,3 +7,4 @@ pub mod ReadExpression
 pub mod ReadRule
 pub mod Line
 pub mod Worked
+pub mod Examples

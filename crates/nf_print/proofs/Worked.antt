@@ -6,82 +6,47 @@ use Rattle.nf_print.proofs.ReadExpression.{digits_model}
 use Rattle.nf_core.specs.Trees as t
 use Rattle.nf_core.specs.Trees.{Tree, level, op_level}
 use Rattle.nf_core.specs.declared.operators.BinOp.TheVariants as op
-use Rattle.nf_core.specs.declared.operators.Op.TheVariants as inclusive
-use Rattle.nf_core.specs.declared.operators.Xop.TheVariants as exclusive
-use Rattle.nf_core.specs.declared.trees.Expr.{Expr}
-use Rattle.nf_core.specs.declared.trees.Expr.TheVariants as e
-use Rattle.nf_core.specs.declared.trees.Atom.{Atom}
-use Rattle.nf_core.specs.declared.trees.Body.TheVariants as body
-use Rattle.nf_core.proofs.Back.{tree_Bool, tree_Int, tree_Text, tree_Start, tree_Stop, tree_Key, tree_Neg, tree_Not, tree_Bin}
+pub use Rattle.nf_core.proofs.Back.{tree_Bool, tree_Int, tree_Text, tree_Start, tree_Stop, tree_Key, tree_Neg, tree_Not, tree_Bin}
+use Rattle.nf_print.specs.Example.{filtered_rule, whole_rule, pair_rule}
 use Rattle.nf_print.specs.Canonical.{canonical, expression_text, minus_before, mark_of, body_text, word_of_op, word_of_xop}
 
-digit_0 : decimal 0 ≡ codes "0"
+pub digit_0 : decimal 0 ≡ codes "0"
 digit_0 = decimal_digit 0 (omega arith)
 
-digit_1 : decimal 1 ≡ codes "1"
+pub digit_1 : decimal 1 ≡ codes "1"
 digit_1 = decimal_digit 1 (omega arith)
 
-digit_2 : decimal 2 ≡ codes "2"
+pub digit_2 : decimal 2 ≡ codes "2"
 digit_2 = decimal_digit 2 (omega arith)
 
-digit_3 : decimal 3 ≡ codes "3"
+pub digit_3 : decimal 3 ≡ codes "3"
 digit_3 = decimal_digit 3 (omega arith)
 
-digit_4 : decimal 4 ≡ codes "4"
+pub digit_4 : decimal 4 ≡ codes "4"
 digit_4 = decimal_digit 4 (omega arith)
 
-digit_5 : decimal 5 ≡ codes "5"
+pub digit_5 : decimal 5 ≡ codes "5"
 digit_5 = decimal_digit 5 (omega arith)
 
-greatest : decimal 9223372036854775807 ≡ codes "9223372036854775807"
+pub greatest : decimal 9223372036854775807 ≡ codes "9223372036854775807"
 greatest = decimal-digits_value digits_model (codes "9223372036854775807") refl (omega arith) (λ e. absurd (omega (arith, e))) (lit< tt)
 
-ruleset shown = (tree_Bool, tree_Int, tree_Text, tree_Start, tree_Stop, tree_Key, tree_Neg, tree_Not, tree_Bin, digit_0, digit_1, digit_2, digit_3, digit_4, digit_5, greatest)
+pub ruleset shown = (tree_Bool, tree_Int, tree_Text, tree_Start, tree_Stop, tree_Key, tree_Neg, tree_Not, tree_Bin, digit_0, digit_1, digit_2, digit_3, digit_4, digit_5, greatest)
 
-abbrev atom : List ℕ → List ℕ → Atom
-atom label name = record { label = label; name = name }
-
--- keys of `x`, and numbers
-abbrev x_k : Expr
-x_k = e.Key (codes "x") (codes "k")
-
-abbrev x_j : Expr
-x_j = e.Key (codes "x") (codes "j")
-
-abbrev x_n : Expr
-x_n = e.Key (codes "x") (codes "n")
-
-abbrev int : ℕ → Expr
-int n = e.Int (pos n)
-
--- the rule of `w:-x:a where !(x.k&x.j)|1-(2-3)< - -x.n`
-the_line : canonical (record {
-  head = codes "w";
-  body = body.One (atom (codes "x") (codes "a"));
-  filter = Some (e.Bin op.Or (e.Not (e.Bin op.And x_k x_j)) (e.Bin op.Lt (e.Bin op.Sub (int 1) (e.Bin op.Sub (int 2) (int 3))) (e.Neg (e.Neg x_n))));
-  entries = [];
-  start = None;
-  stop = None;
-}) ≡ codes "w :- x:a where !(x.k & x.j) | 1 - (2 - 3) < - -x.n\n"
+-- `w:-x:a where !(x.k&x.j)|1-(2-3)< - -x.n`
+filtered_line : canonical filtered_rule ≡ codes "w :- x:a where !(x.k & x.j) | 1 - (2 - 3) < - -x.n\n"
 unfolding canonical body_text expression_text minus_before mark_of level op_level
-the_line = simp shown refl
+filtered_line = simp shown refl
 
 -- all clauses
-all_clauses : canonical (record {
-  head = codes "h";
-  body = body.Unless (atom (codes "a") (codes "a")) exclusive.Contain (atom (codes "b") (codes "a"));
-  filter = Some (e.Bool true);
-  entries = record { key = codes "k"; value = x_k } ∷ record { key = codes "j"; value = e.Text (codes "it") } ∷ [];
-  start = Some (e.Start (codes "a"));
-  stop = Some (e.Bin op.Add (e.Stop (codes "a")) (int 5));
-}) ≡ codes "h :- a unless contain b:a where true map { k -> x.k, j -> \"it\" } begin a.begin end a.end + 5\n"
+whole_line : canonical whole_rule ≡ codes "h :- a unless contain b:a where true map { k -> a.k, j -> 9223372036854775807 } begin a.begin end a.end + 0\n"
 unfolding canonical body_text expression_text minus_before mark_of level op_level word_of_xop
-all_clauses = simp shown refl
+whole_line = simp shown refl
 
-no_clause : canonical (record { head = codes "h"; body = body.Pair (atom (codes "a") (codes "a")) inclusive.Before (atom (codes "b") (codes "b")); filter = None; entries = []; start = None; stop = None })
-    ≡ codes "h :- a before b\n"
+-- no clause
+pair_line : canonical pair_rule ≡ codes "h :- a before b\n"
 unfolding canonical body_text word_of_op
-no_clause = refl
+pair_line = refl
 
 -- ---- expressions
 abbrev a : Tree
