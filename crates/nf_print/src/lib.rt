@@ -9,6 +9,8 @@
 mod expressions;
 mod laws;
 mod printing;
+#[cfg(test)]
+mod tests;
 mod words;
 
 pub use laws::canonical_lines_are_read;
