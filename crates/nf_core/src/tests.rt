@@ -83,7 +83,6 @@ fn lists_and_sets(rt: HostRuntime) -> Result<(), Fail> {
     Ok(())
 }
 
-#[tactic(auto, using(crate::proofs::Limits::sum_within_limits))]
 fn expression(alloc: Global) -> Result<Expr, NoMemory>
     ensures { IfOk result (λ x. IsWithinLimits (tree x)) }
 {
@@ -115,7 +114,6 @@ fn atom(alloc: Global, name: &str) -> Result<Atom, NoMemory>
 }
 
 /// A rule with each clause.
-#[tactic(auto, using(crate::proofs::Limits::clauses_within_limits))]
 fn rule_with_clauses(alloc: Global) -> Result<Rule, NoMemory> {
     let mut entries = EntryList::new(alloc);
     entries.push(Entry {
