@@ -1,5 +1,5 @@
 -- The examples can be written and are within the limits.
-use Rattle.std.proofs.Common.{◌≡◌, ℕ, pos, true, ◌≤◌, List, [], ◌∷◌, refl, sym, subst, codes, All, arith, lit≤}
+use Rattle.std.proofs.Common.{◌≡◌, ℕ, pos, true, ◌≤◌, List, [], ◌∷◌, refl, sym, subst, codes, arith, lit≤}
 use Rattle.std.specs.Prelude.{◌≤ℤ◌}
 use Rattle.std.proofs.lemmas.Int.{ints}
 use Rattle.std.proofs.lemmas.List.Elements.{All-nil, All-from_recursion}
@@ -12,7 +12,7 @@ use Rattle.nf_core.specs.declared.trees.Expr.{Expr}
 use Rattle.nf_core.specs.declared.trees.Expr.TheVariants as e
 use Rattle.nf_core.specs.declared.trees.Atom.{Atom}
 use Rattle.nf_core.specs.declared.trees.Entry.{Entry}
-use Rattle.nf_print.specs.Example.{key, int, filter, filtered_rule, entries, whole_rule, pair_rule}
+use Rattle.nf_print.specs.Example.{int, filter, filtered_rule, entries, stop, whole_rule, pair_rule}
 use Rattle.nf_print.proofs.Worked.{shown}
 
 abbrev x : List ℕ → Tree
@@ -28,10 +28,7 @@ filter_tree = t.Bin op.Or (t.Not (t.Bin op.And (x (codes "k")) (x (codes "j"))))
 filter_is : tree filter ≡ filter_tree
 filter_is = simp shown refl
 
-abbrev stop_expression : Expr
-stop_expression = e.Bin op.Add (e.Stop (codes "a")) (int 0)
-
-stop_is : tree stop_expression ≡ t.Bin op.Add (t.Stop (codes "a")) (n 0)
+stop_is : tree stop ≡ t.Bin op.Add (t.Stop (codes "a")) (n 0)
 stop_is = simp shown refl
 
 -- an expression that can be written and is within the limits
@@ -72,9 +69,9 @@ good_start : IsGood (e.Start (codes "a"))
 unfolding IsWrittenTree operators open_parens is_identifier has_name_form keywords
 good_start = good_by (e.Start (codes "a")) (t.Start (codes "a")) (simp shown refl) (record { written = refl; limits = record { few_operators = lit≤ tt; few_parens = lit≤ tt } })
 
-good_stop : IsGood stop_expression
+good_stop : IsGood stop
 unfolding IsWrittenTree operators open_parens level op_level is_identifier has_name_form keywords
-good_stop = good_by stop_expression (t.Bin op.Add (t.Stop (codes "a")) (n 0)) stop_is (record { written = (refl, number 0 (lit≤ tt)); limits = record { few_operators = lit≤ tt; few_parens = lit≤ tt } })
+good_stop = good_by stop (t.Bin op.Add (t.Stop (codes "a")) (n 0)) stop_is (record { written = (refl, number 0 (lit≤ tt)); limits = record { few_operators = lit≤ tt; few_parens = lit≤ tt } })
 
 pub filtered_within : IsRule filtered_rule
 filtered_within = All-from_recursion (λ a. IsWithinLimits (tree a)) (filter ∷ []) (good_filter.limits, tt)

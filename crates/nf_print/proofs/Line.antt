@@ -1,5 +1,5 @@
 -- The canonical line of a rule spells the rule.
-use Rattle.std.proofs.Common.{◌≡◌, ℕ, ◌+◌, ◌<◌, ◌↔◌, true, List, [], ◌∷◌, ◌++◌, map, length, refl, sym, subst, arith, All, length-append}
+use Rattle.std.proofs.Common.{◌≡◌, ℕ, ◌+◌, ◌↔◌, true, List, [], ◌∷◌, ◌++◌, map, length, refl, sym, subst, arith, All, length-append}
 use Rattle.std.specs.Prelude.{option_to_list}
 use Rattle.std.proofs.lemmas.List.{get_or_append_left, get_or-append-add}
 use Rattle.std.proofs.lemmas.List.Elements.{All-nil, All-cons, All-head, All-tail}
@@ -11,7 +11,6 @@ use Rattle.nf_text.specs.Value.{is_plain}
 use Rattle.nf_parse.specs.Grammar.{unnamed}
 use Rattle.nf_parse.specs.Answers.{IsFileWithin, Spells}
 use Rattle.nf_print.specs.Canonical.{canonical}
-use Rattle.nf_print.proofs.Fronts.{rule_words}
 use Rattle.nf_print.proofs.ReadWords.{AreRead}
 use Rattle.nf_print.proofs.ReadRule.{IsPrintable, rule_read}
 use Rattle.nf_print.proofs.SpelledRule.{AreGood, file_spelled}

@@ -1,5 +1,5 @@
 -- The parts of an expression by their levels.
-use Rattle.std.proofs.Common.{◌≡◌, ℕ, zero, suc, ◌+◌, ◌≤◌, Bool, true, false, ◌||◌, ◌&&◌, cond, eqb, ltb, leb, List, ◌∷◌, refl, sym, ap, subst, arith, ⊎_elim, Some, codes}
+use Rattle.std.proofs.Common.{◌≡◌, ℕ, zero, suc, ◌≤◌, false, ◌||◌, ◌&&◌, cond, eqb, ltb, leb, List, ◌∷◌, refl, subst, arith, ⊎_elim, codes}
 use Rattle.std.proofs.lemmas.Bool.{cases_lt}
 use Rattle.std.proofs.lemmas.Bool.Decides.{nat_tests}
 use Rattle.nf_core.specs.Trees.{op_level}
@@ -8,8 +8,8 @@ use Rattle.nf_core.specs.declared.operators.BinOp.TheVariants as binary
 use Rattle.nf_core.specs.declared.trees.Expr.{Expr}
 use Rattle.nf_core.specs.declared.trees.Expr.TheVariants as e
 use Rattle.nf_parse.specs.State.{Word, State, state, sym_of}
-use Rattle.nf_parse.specs.Combinators.{Relation, Token, Done, Then, Enclosed, Operator, Chain, Single, one, more, alone, pair}
-use Rattle.nf_parse.specs.Grammar.{op_at, Primary, paren, Unary, primary, Product, Sum, Comparison, Conjunction, Expression, Paren}
+use Rattle.nf_parse.specs.Combinators.{Relation, Operator, one, more, alone, pair}
+use Rattle.nf_parse.specs.Grammar.{op_at, Primary, Unary, primary, Product, Sum, Comparison, Conjunction, Expression, Paren}
 use Rattle.nf_print.proofs.Fronts.{mark}
 use Rattle.nf_print.specs.Canonical.{mark_of}
 

@@ -1,8 +1,7 @@
 -- The canonical text of an expression is read as its words.
-use Rattle.std.proofs.Common.{◌≡◌, ℕ, ℤ, pos, negsuc, zero, suc, ◌+◌, ◌^◌, ◌<◌, ◌≤◌, ◌≢◌, ◌↔◌, Bool, true, false, ◌||◌, ◌&&◌, cond, eqb, ltb, List, [], ◌∷◌, ◌++◌, length, take, drop, get_or, refl, sym, ap, ◌∙◌, subst, arith, rules, codes, decimal, All, append_assoc, length-append, None}
+use Rattle.std.proofs.Common.{◌≡◌, ℕ, pos, negsuc, ◌+◌, ◌^◌, ◌<◌, ◌≢◌, ◌↔◌, Bool, true, false, ◌||◌, eqb, ltb, List, [], ◌∷◌, ◌++◌, length, take, get_or, refl, sym, ap, ◌∙◌, subst, arith, rules, codes, decimal, All, append_assoc, length-append}
 use Rattle.std.specs.Prelude as prelude
 use Rattle.std.specs.Char.{is_ascii_digit}
-use Rattle.std.specs.Str.{is_utf8}
 use Rattle.std.specs.Str.Parse.{digits_value}
 use Rattle.std.specs.List.{list_all, position_or_len}
 use Rattle.std.proofs.lemmas.Bool.{and_parts, both_ways, ne_eqb, lt-ltb}
@@ -22,8 +21,8 @@ use Rattle.nf_core.specs.declared.operators.BinOp.TheVariants as binary
 use Rattle.nf_text.specs.Value.{is_plain}
 use Rattle.nf_lex.specs.declared.token.TokenKind.TheVariants as kind
 use Rattle.nf_lex.specs.Bytes.{is_initial, is_inner, is_quote}
-use Rattle.nf_lex.specs.Words.{is_name, is_number, is_text, is_among, long_marks, opens_line, opens_block}
-use Rattle.nf_lex.specs.Faults.{fault_of, body_of}
+use Rattle.nf_lex.specs.Words.{is_number, is_text, is_among, long_marks, opens_line, opens_block}
+use Rattle.nf_lex.specs.Faults.{fault_of}
 use Rattle.nf_parse.specs.State.{Word}
 use Rattle.nf_print.specs.Canonical.{mark_of, enclosed, minus_before, expression_text}
 use Rattle.nf_print.proofs.Fronts.{Front, word, name, keyword, mark, between, quoted, expression_words}
@@ -49,8 +48,8 @@ quoted_text : (t : List ℕ) → All (λ byte. byte ≢ 34) t → is_text (quote
 quoted_text t h =
     let n = length-append t (codes "\"") in
     let place : position_or_len is_quote (t ++ codes "\"") ≡ length t = position_or_len_is is_quote (t ++ codes "\"") (length t) 0 (omega (arith, n))
-        (λ k l. ne_eqb (get_or (t ++ codes "\"") k 0) 34 (λ e. h k 0 l (sym (get_or_append_left t (codes "\"") 0 k l) ∙ e)))
-        (λ l. let e : length t + 0 ≡ length t = omega arith in ap (λ k. is_quote (get_or (t ++ codes "\"") k 0)) (sym e) ∙ ap is_quote (get_or-append-add t (codes "\"") 0 0)) in
+    (λ k l. ne_eqb (get_or (t ++ codes "\"") k 0) 34 (λ e. h k 0 l (sym (get_or_append_left t (codes "\"") 0 k l) ∙ e)))
+    (λ l. let e : length t + 0 ≡ length t = omega arith in ap (λ k. is_quote (get_or (t ++ codes "\"") k 0)) (sym e) ∙ ap is_quote (get_or-append-add t (codes "\"") 0 0)) in
     let e : position_or_len is_quote (t ++ codes "\"") + 2 ≡ length (quoted t) = omega (arith, n, place) in
     eq-eqb _ _ e
 

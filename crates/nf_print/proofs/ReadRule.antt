@@ -1,5 +1,5 @@
 -- The canonical line of a rule is read as its words.
-use Rattle.std.proofs.Common.{◌≡◌, ℕ, ◌↔◌, take, true, false, cond, List, [], ◌∷◌, ◌++◌, get_or, refl, sym, ap, ◌∙◌, subst, codes, flat_map, append_assoc, Option, Some, None, All, IsTrue}
+use Rattle.std.proofs.Common.{◌≡◌, ℕ, ◌↔◌, take, true, false, cond, List, [], ◌∷◌, ◌++◌, get_or, refl, sym, subst, codes, flat_map, append_assoc, Option, Some, None, All}
 use Rattle.std.specs.Prelude as prelude
 use Rattle.std.specs.Prelude.{option_to_list}
 use Rattle.std.proofs.lemmas.List.Elements.{All-head, All-tail}

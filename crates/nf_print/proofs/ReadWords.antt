@@ -1,9 +1,9 @@
 -- Bytes that are read as words, one word in front of others.
-use Rattle.std.proofs.Common.{◌≡◌, ℕ, ◌+◌, ◌-◌, ◌<◌, ◌≤◌, Bool, true, false, not, ◌&&◌, ◌||◌, eqb, List, [], ◌∷◌, ◌++◌, length, take, drop, get_or, refl, sym, ap, ◌∙◌, subst, arith, codes, None, Ok, bytes_eq}
+use Rattle.std.proofs.Common.{◌≡◌, ℕ, ◌+◌, ◌-◌, ◌≤◌, Bool, true, false, not, ◌||◌, eqb, List, [], ◌∷◌, ◌++◌, length, take, drop, get_or, refl, sym, ap, ◌∙◌, subst, arith, None, Ok, bytes_eq}
 use Rattle.std.specs.Char.{is_ascii_digit}
 use Rattle.std.specs.List.{list_all, list_any}
 use Rattle.std.proofs.lemmas.List.{take_at, drop_at, drop-drop, length-drop}
-use Rattle.std.proofs.lemmas.Bool.{and_parts, both_ways, false_from_ne_true, ne_eqb, not-true}
+use Rattle.std.proofs.lemmas.Bool.{and_parts, not-true}
 use Rattle.std.proofs.lemmas.Bool.Decides.{nat_tests, same_from_decides}
 use Rattle.std.proofs.lemmas.Slice.Eq.{bytes_eq-Decides}
 use Rattle.nf_core.specs.Identifiers.{is_identifier, has_name_form, is_letter, is_digit}
@@ -16,7 +16,7 @@ use Rattle.nf_lex.specs.Words as words
 use Rattle.nf_lex.specs.Words.{is_name, is_number, is_text, is_among, name_kind, keywords, long_marks, short_marks, opens_line, opens_block, Gap, IsWord}
 use Rattle.nf_lex.specs.Faults.{fault_of, line_at}
 use Rattle.nf_lex.specs.Division.{Divides, ends, skips, takes, token_at}
-use Rattle.nf_parse.specs.State.{Word, words_of, word_of, sym_of}
+use Rattle.nf_parse.specs.State.{Word, words_of}
 use Rattle.nf_print.proofs.Fronts.{word, name, keyword, mark}
 
 -- the lexer's law: a word that is followed by bytes with which it doesn't go on is read

@@ -1,9 +1,8 @@
 -- The words of an expression spell it.
-use Rattle.std.proofs.Common.{◌≡◌, ℕ, ℤ, pos, negsuc, zero, suc, ◌+◌, ◌-◌, ◌*◌, ◌^◌, ◌≤◌, ◌<◌, true, false, List, [], ◌∷◌, ◌++◌, length, take, refl, sym, ap, ◌∙◌, subst, arith, codes, max, decimal, length-append}
+use Rattle.std.proofs.Common.{◌≡◌, ℕ, pos, negsuc, zero, suc, ◌+◌, ◌-◌, ◌^◌, ◌≤◌, ◌<◌, true, false, List, ◌∷◌, ◌++◌, length, take, refl, sym, ap, ◌∙◌, subst, arith, codes, decimal, length-append}
 use Rattle.std.proofs.lemmas.Int.{ints}
 use Rattle.std.specs.Prelude as prelude
 use Rattle.std.specs.Prelude.{◌≤ℤ◌}
-use Rattle.std.specs.Fmt.{signed_decimal}
 use Rattle.std.specs.Str.Parse.{digits_value}
 use Rattle.std.proofs.lemmas.Fmt.{decimal_is_IsNumeral}
 use Rattle.std.proofs.lemmas.List.{take_at}
@@ -14,10 +13,10 @@ use Rattle.nf_core.specs.declared.trees.Expr.TheVariants as e
 use Rattle.nf_lex.specs.Faults.{body_of}
 use Rattle.nf_lex.specs.declared.token.TokenKind.{TokenKind}
 use Rattle.nf_lex.specs.declared.token.TokenKind.TheVariants as kind
-use Rattle.nf_parse.specs.State.{Word, State, state, sym_of}
+use Rattle.nf_parse.specs.State.{Word, state, sym_of}
 use Rattle.nf_parse.specs.Combinators.{Relation, Token, Operator}
-use Rattle.nf_parse.specs.Grammar.{Primary, number, text, yes, no, key, start, stop, paren, Unary, minus, bang, Paren}
-use Rattle.nf_print.proofs.Fronts.{Front, word, name, keyword, mark, between, quoted, expression_words}
+use Rattle.nf_parse.specs.Grammar.{Primary, number, text, yes, no, key, start, stop, paren, minus, bang, Paren}
+use Rattle.nf_print.proofs.Fronts.{word, name, keyword, mark, between, quoted, expression_words}
 use Rattle.nf_print.specs.Canonical.{mark_of}
 use Rattle.nf_print.proofs.Parts.{left_small, Part, loosest, left_level, left_free, right_free, operand_free, level_small, bin_part, paren_part}
 

@@ -1,11 +1,11 @@
 -- The words of a rule spell it.
-use Rattle.std.proofs.Common.{◌≡◌, ℕ, ◌+◌, ◌-◌, ◌≤◌, true, false, List, [], ◌∷◌, ◌++◌, map, refl, sym, ap, ◌∙◌, subst, arith, codes, Option, Some, None, unwrap_or, All}
+use Rattle.std.proofs.Common.{◌≡◌, ℕ, ◌-◌, true, false, List, [], ◌∷◌, refl, ap, subst, arith, codes, Option, Some, None, unwrap_or, All}
 use Rattle.std.specs.Prelude as prelude
 use Rattle.std.specs.Prelude.{option_to_list}
 use Rattle.std.proofs.lemmas.Slice.Eq.{bytes_eq-Decides}
 use Rattle.std.proofs.lemmas.List.Elements.{All-head, All-tail}
 use Rattle.nf_core.specs.Texts.{text_eq}
-use Rattle.nf_core.specs.Trees.{Tree, Rule, tree, expr_of, level, operators, IsWrittenTree, IsWithinLimits, IsWritten, IsRule, expressions_of}
+use Rattle.nf_core.specs.Trees.{Rule, tree, expr_of, level, operators, IsWrittenTree, IsWithinLimits}
 use Rattle.nf_core.specs.declared.operators.Op.{Op}
 use Rattle.nf_core.specs.declared.operators.Op.TheVariants as op
 use Rattle.nf_core.specs.declared.operators.Xop.{Xop}
@@ -18,11 +18,11 @@ use Rattle.nf_core.specs.declared.trees.Entry.{Entry}
 use Rattle.nf_lex.specs.declared.token.TokenKind.{TokenKind}
 use Rattle.nf_lex.specs.declared.token.TokenKind.TheVariants as kind
 use Rattle.nf_parse.specs.State.{Word, State, state, sym_of}
-use Rattle.nf_parse.specs.Combinators.{Relation, Token, OneOf, Done, Then, Either, left, right, Optional, absent, present, Separated, one, more, Repeated, none, some, Whole}
+use Rattle.nf_parse.specs.Combinators.{Token, OneOf, Then, left, right, Optional, absent, present, Separated, one, more, none, some, Whole}
 use Rattle.nf_parse.specs.Grammar.{Expression, Paren, op_of, xop_of, AtomWord, BodyWord, EntryWord, MapWord, RuleWord, loose, modules_of, unnamed}
 use Rattle.nf_parse.specs.Answers.{IsFileWithin}
 use Rattle.nf_print.specs.Canonical.{word_of_op, word_of_xop}
-use Rattle.nf_print.proofs.Fronts.{Front, word, name, keyword, mark, expression_words, atom_at, atom_words, body_words, clause_words, entry_words, other_words, map_words, rule_words}
+use Rattle.nf_print.proofs.Fronts.{word, name, keyword, mark, expression_words, atom_at, atom_words, body_words, clause_words, entry_words, other_words, map_words, rule_words}
 use Rattle.nf_print.proofs.Parts.{loosest}
 use Rattle.nf_print.proofs.Spelled.{spelled}
 

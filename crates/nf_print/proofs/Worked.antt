@@ -1,5 +1,5 @@
 -- The definitions computed on worked cases. What is expected was worked out by hand from the rules.
-use Rattle.std.specs.Prelude.{◌≡◌, refl, ℕ, pos, true, false, List, [], ◌∷◌, map, Some, None, codes}
+use Rattle.std.specs.Prelude.{◌≡◌, refl, ℕ, pos, true, false, [], ◌∷◌, map, codes}
 use Rattle.std.proofs.Common.{arith, decimal, lit<}
 use Rattle.std.proofs.lemmas.Fmt.{decimal_digit, decimal-digits_value}
 use Rattle.nf_print.proofs.ReadExpression.{digits_model}

@@ -26,17 +26,13 @@ int n = e.Int (pos n)
 abbrev pub not_both : Expr
 not_both = e.Not (e.Bin op.And (key (codes "k")) (key (codes "j")))
 
--- 1 - (2 - 3)
-abbrev pub difference : Expr
-difference = e.Bin op.Sub (int 1) (e.Bin op.Sub (int 2) (int 3))
-
--- - -x.n
-abbrev pub negated_twice : Expr
-negated_twice = e.Neg (e.Neg (key (codes "n")))
+-- 1 - (2 - 3) < - -x.n
+abbrev pub difference_below : Expr
+difference_below = e.Bin op.Lt (e.Bin op.Sub (int 1) (e.Bin op.Sub (int 2) (int 3))) (e.Neg (e.Neg (key (codes "n"))))
 
 -- !(x.k & x.j) | 1 - (2 - 3) < - -x.n
 abbrev pub filter : Expr
-filter = e.Bin op.Or not_both (e.Bin op.Lt difference negated_twice)
+filter = e.Bin op.Or not_both difference_below
 
 -- w :- x:a where !(x.k & x.j) | 1 - (2 - 3) < - -x.n
 abbrev pub filtered_rule : Rule
@@ -46,6 +42,10 @@ filtered_rule = record { head = codes "w"; body = body.One (atom (codes "x") (co
 abbrev pub entries : List Entry
 entries = record { key = codes "k"; value = e.Key (codes "a") (codes "k") } ∷ record { key = codes "j"; value = int 9223372036854775807 } ∷ []
 
+-- a.end + 0
+abbrev pub stop : Expr
+stop = e.Bin op.Add (e.Stop (codes "a")) (int 0)
+
 -- h :- a unless contain b:a where true map { k -> a.k, j -> 9223372036854775807 } begin a.begin end a.end + 0
 abbrev pub whole_rule : Rule
 whole_rule = record {
@@ -54,7 +54,7 @@ whole_rule = record {
   filter = Some (e.Bool true);
   entries = entries;
   start = Some (e.Start (codes "a"));
-  stop = Some (e.Bin op.Add (e.Stop (codes "a")) (int 0));
+  stop = Some stop;
 }
 
 -- h :- a before b

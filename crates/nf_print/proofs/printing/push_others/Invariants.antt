@@ -1,4 +1,4 @@
-use Rattle.std.proofs.Common.{◌≡◌, List, ◌++◌, flat_map, take, codes}
+use Rattle.std.proofs.Common.{◌≡◌, ◌++◌, flat_map, take, codes}
 use Rattle.nf_core.specs.declared.trees.Entry.{Entry}
 use Rattle.nf_print.specs.Canonical.{entry_text}
 use Rattle.nf_print.proofs.printing.push_others.Given as goal
