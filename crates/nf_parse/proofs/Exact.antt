@@ -24,9 +24,6 @@ pub record IsSpending {A : Type 0} (R : Relation A) : Type 0 where
 pub ok_same : {A : Type 0} (a b : A × State) (o : Outcome A) → o ≡ Ok a → o ≡ Ok b → a ≡ b
 ok_same a b o p q = cc
 
-pub err_not_ok : {A : Type 0} (a : A × State) (o : Outcome A) {f : _} → o ≡ Err f → o ≡ Ok a → ⊥
-err_not_ok a o p q = cc
-
 -- what a parser after another one read
 pub record Bound {A B : Type 0} (o : Outcome A) (k : A → Parser B) (y : B) (t : State) : Type 0 where
   pub given : A
@@ -161,6 +158,3 @@ module _ {A : Type 0} (p : Parser A) (R : Relation A) (stop : Option Sym → Typ
             operators = sym (ap (λ (r : A × State). r.1.operators) r);
           }
       go s t x (Err f) h e = cc
-
-  pub whole_spending : IsSpending (Whole R)
-  whole_spending = record { fewer = λ s t x r. omega (arith, r.operators) }

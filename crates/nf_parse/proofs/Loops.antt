@@ -11,7 +11,7 @@ use Rattle.nf_parse.specs.declared.level.Level.{Level}
 use Rattle.nf_parse.specs.declared.level.Level.TheVariants as level
 use Rattle.nf_parse.specs.declared.symbol.Sym.{Sym}
 use Rattle.nf_parse.specs.State.{Word, State, state, next, next_of}
-use Rattle.nf_parse.specs.Parsers.{Outcome, Parser, bind, and_then, done, too_deep, operator, in_table, IsWithin, Reads, Stops}
+use Rattle.nf_parse.specs.Parsers.{Outcome, Parser, bind, and_then, done, too_deep, operator, in_table, IsWithin, Reads}
 use Rattle.nf_parse.specs.Reading.{chain_from, chain, sign_of, unary_from, unary}
 use Rattle.nf_parse.proofs.Exact.{ok_same, bound, then_is, found}
 use Rattle.nf_parse.proofs.Steps.{operator_full}
@@ -100,13 +100,6 @@ module _ (table : Sym → Option BinOp) (p : Parser Expr) where
 pub reads_err : {A B : Type 0} (q : Outcome A) (o : Outcome B) → ((f : Fault) → q ≡ Err f → o ≡ Err f) → (h : Halt) (new now : State) → Reads q (Err h) new → Reads o (Err h) now
 reads_err q o k halt.NoMemory new now r = tt
 reads_err q o k (halt.At f) new now r = k f r
-
-pub stops_err : {A B : Type 0} (q : Outcome A) (o : Outcome B) → ((f : Fault) → q ≡ Err f → o ≡ Err f) → (h : Halt) (now : State) → Stops q h → Reads o (Err h) now
-stops_err q o k halt.NoMemory now r = tt
-stops_err q o k (halt.At f) now r = k f r
-
-pub then_stops : {A B : Type 0} (p : Parser A) (k : A → Parser B) (s : State) (f : Fault) → p s ≡ Err f → and_then p k s ≡ Err f
-then_stops p k s f h = ap (λ o. bind o k) h
 
 -- signs
 module _ (p : Parser Expr) where

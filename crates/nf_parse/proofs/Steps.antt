@@ -39,13 +39,6 @@ pub operator_read : (k : Sym) (s : State) → next s ≡ Some k → 0 < s.operat
 unfolding operator
 operator_read k s h l = some_use k s.operators s.words h l
 
-some_words : (k : Sym) (words : List Word) → next_of words ≡ Some k → 0 < length words
-some_words k [] h = cc
-some_words k (word ∷ words) h = omega arith
-
-pub next_some : (k : Sym) (s : State) → next s ≡ Some k → 0 < length s.words
-next_some k s h = some_words k s.words h
-
 pub paren_zero : (depth : ℕ) (s : State) → depth ≡ 0 → paren depth s ≡ cond (is_at kind.Open s) (too_deep s) (refuse s)
 unfolding paren
 paren_zero depth s h = rw h refl

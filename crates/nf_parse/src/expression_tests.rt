@@ -106,15 +106,6 @@ static CLAUSES: [(&str, &str); 5] = [
     ("w :- a begin (((1)))\nend ", ""),
 ];
 
-/// Shows an expression with two operands.
-fn push_pair(alloc: Global, text: &mut String, left: &Expr, right: &Expr) -> Result<(), Fail> {
-    push_expr(alloc, text, left)?;
-    text.push(' ')?;
-    push_expr(alloc, text, right)?;
-    text.push(')')?;
-    Ok(())
-}
-
 /// Shows a read of a member.
 fn push_read(text: &mut String, label: &str, key: &str) -> Result<(), Fail> {
     text.push_str(label)?;
@@ -145,7 +136,10 @@ fn push_expr(alloc: Global, text: &mut String, x: &Expr) -> Result<(), Fail> {
         }
         Expr::Bin(op, left, right) => {
             text.push_str(format!(in alloc; "({op:?} ")?.as_str())?;
-            push_pair(alloc, text, left.get(), right.get())?;
+            push_expr(alloc, text, left.get())?;
+            text.push(' ')?;
+            push_expr(alloc, text, right.get())?;
+            text.push(')')?;
         }
     }
     Ok(())
