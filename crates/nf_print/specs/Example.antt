@@ -42,6 +42,10 @@ filtered_rule = record { head = codes "w"; body = body.One (atom (codes "x") (co
 abbrev pub entries : List Entry
 entries = record { key = codes "k"; value = e.Key (codes "a") (codes "k") } ∷ record { key = codes "j"; value = int 9223372036854775807 } ∷ []
 
+-- a.begin
+abbrev pub start : Expr
+start = e.Start (codes "a")
+
 -- a.end + 0
 abbrev pub stop : Expr
 stop = e.Bin op.Add (e.Stop (codes "a")) (int 0)
@@ -53,7 +57,7 @@ whole_rule = record {
   body = body.Unless (atom (codes "a") (codes "a")) exclusive.Contain (atom (codes "b") (codes "a"));
   filter = Some (e.Bool true);
   entries = entries;
-  start = Some (e.Start (codes "a"));
+  start = Some start;
   stop = Some stop;
 }
 

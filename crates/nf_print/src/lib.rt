@@ -3,7 +3,7 @@
 //! The rule is `canonical` in specs/Canonical.antt: one line, with parentheses exactly where the levels
 //! of operators ask for them (specs/Trees.antt of nf_core). `print` gives that line, and the line spells
 //! the rule: by the grammar of nf_parse it is one module without name that holds this rule alone.
-//! The program that shows specifications stands above it.
+//! Commands that show rules stand above it; none is built yet.
 #![tactic(auto)]
 
 mod expressions;
