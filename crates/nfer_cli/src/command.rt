@@ -1,9 +1,9 @@
 //! The top call.
 
-ghost use Rattle.std.specs.Prelude.{◌≡◌, ◌≢◌, ◌↔◌, ◌≤◌, true, IfSome, Some, None, All, length};
+ghost use Rattle.std.specs.Prelude.{◌≡◌, ◌⊎◌, ◌≢◌, ◌↔◌, ◌≤◌, true, IfSome, Some, None, All, length};
 ghost use Rattle.nf_io.specs.Causes.{Rose};
 ghost use Rattle.nf_io.specs.Bytes.{Took};
-ghost use Rattle.nf_io.specs.Files.{bytes_of};
+ghost use Rattle.nf_io.specs.Files.{bytes_of, asked_of};
 ghost use Rattle.nf_model.specs.Built.{IsBuilt};
 ghost use Rattle.nfer_cli.specs.Words.{asked, Follow, file_words, trace_word};
 ghost use Rattle.nfer_cli.specs.Messages.{message};
@@ -11,7 +11,7 @@ ghost use Rattle.nfer_cli.specs.Results.{end_of, IsFollowEnd};
 ghost use Rattle.nfer_cli.specs.Progress.{Ended};
 ghost use Rattle.nfer_cli.specs.Results.{IsTraceEnd};
 ghost use Rattle.nfer_cli.specs.Faults.{CannotReadTrace};
-ghost use Rattle.nfer_cli.specs.Answers.{Defines, Answers, ReadsTo, IfReadFault, CannotRead, IsCompleteFor, followed, specified, FollowDefines, FollowReadsTo, TraceReadsTo};
+ghost use Rattle.nfer_cli.specs.Answers.{Defines, Answers, ReadsTo, AsksWithin, IfReadFault, CannotRead, IsCompleteFor, followed, specified, FollowDefines, FollowReadsTo, TraceReadsTo};
 
 use crate::following::follow;
 use crate::messages::report;
@@ -55,6 +55,9 @@ pub fn run<F: Shelf, O: Sink, E: Sink, L: Ledger>(
     // No read is made after a refusal is known, and at the end of the trace it was read whole.
     ensures reads { IfSome (F.files shelf.old) (λ files. ReadsTo (asked words.now) result files (F.asked shelf.old) (F.rest shelf.old) (F.asked shelf.new) (F.rest shelf.new)) }
 
+    // No file is asked for but those of the command.
+    ensures asks { IfSome (F.files shelf.old) (λ files. AsksWithin (file_words (asked words.now)) files (F.asked shelf.old) (F.asked shelf.new)) }
+
     // A fault comes only where its object failed in this call, and a read fault names the file.
     ensures read_fault { IfReadFault result (λ place. CannotRead (file_words (asked words.now)) place (F.files shelf.old) (F.faults shelf.old) (F.faults shelf.new) (F.failed shelf.new) (F.asked shelf.new)) }
     ensures write_fault { result ≡ Status.WriteFault → Rose (O.faults out.old) (O.faults out.new) }
@@ -85,6 +88,7 @@ fn carry_out<F: Shelf, O: Sink, L: Ledger>(
     ensures usage { (result ≡ Status.Usage) ↔ (asked words.now ≡ None) }
     ensures answer { IfSome (F.files shelf.old) (λ files. Answers (Defines (asked words.now) files) result (O.taken out.old) (O.taken out.new)) }
     ensures reads { IfSome (F.files shelf.old) (λ files. ReadsTo (asked words.now) result files (F.asked shelf.old) (F.rest shelf.old) (F.asked shelf.new) (F.rest shelf.new)) }
+    ensures asks { IfSome (F.files shelf.old) (λ files. AsksWithin (file_words (asked words.now)) files (F.asked shelf.old) (F.asked shelf.new)) }
     ensures read_fault { IfReadFault result (λ place. CannotRead (file_words (asked words.now)) place (F.files shelf.old) (F.faults shelf.old) (F.faults shelf.new) (F.failed shelf.new) (F.asked shelf.new)) }
     ensures write_fault { result ≡ Status.WriteFault → Rose (O.faults out.old) (O.faults out.new) }
     ensures untouched { result ≡ Status.Usage → F.faults shelf.new ≡ F.faults shelf.old }
@@ -115,6 +119,7 @@ fn follow_file<F: Shelf, O: Sink, L: Ledger>(
 ) -> Result<(), Status>
     ensures answer { IfSome (F.files shelf.old) (λ files. Answers (Defines (Some (Follow file.now)) files) (end_of result) (O.taken out.old) (O.taken out.new)) }
     ensures reads { IfSome (F.files shelf.old) (λ files. ReadsTo (Some (Follow file.now)) (end_of result) files (F.asked shelf.old) (F.rest shelf.old) (F.asked shelf.new) (F.rest shelf.new)) }
+    ensures asks { IfSome (F.files shelf.old) (λ files. AsksWithin (file_words (Some (Follow file.now))) files (F.asked shelf.old) (F.asked shelf.new)) }
     ensures usage { end_of result ≢ Status.Usage }
     ensures read_fault { IfReadFault (end_of result) (λ place. CannotRead (file_words (Some (Follow file.now))) place (F.files shelf.old) (F.faults shelf.old) (F.faults shelf.new) (F.failed shelf.new) (F.asked shelf.new)) }
     ensures write_fault { end_of result ≡ Status.WriteFault → Rose (O.faults out.old) (O.faults out.new) }
@@ -139,6 +144,7 @@ fn follow_specification<F: Shelf, O: Sink, L: Ledger>(
     ensures answer { IfSome (F.files shelf.old) (λ files. Answers (FollowDefines (specified bytes.now) (bytes_of files trace_word)) (end_of result) (O.taken out.old) (O.taken out.new)) }
     ensures unbuilt { end_of result ≡ Status.Unbuilt → (F.asked shelf.new ≡ F.asked shelf.old) × (F.rest shelf.new ≡ F.rest shelf.old) }
     ensures reads { end_of result ≢ Status.Unbuilt → IfSome (F.files shelf.old) (λ files. TraceReadsTo (end_of result) files (F.asked shelf.new) (F.rest shelf.new)) }
+    ensures asks { IfSome (F.files shelf.old) (λ files. (F.asked shelf.new ≡ F.asked shelf.old) ⊎ (F.asked shelf.new ≡ Some (asked_of files trace_word))) }
     ensures kinds { (end_of result ≢ Status.Usage) × (end_of result ≢ Status.SpecificationTooLong) }
     ensures read_fault { IfReadFault (end_of result) (λ place. CannotReadTrace place (F.files shelf.old) (F.faults shelf.old) (F.faults shelf.new) (F.failed shelf.new) (F.asked shelf.new)) }
     ensures write_fault { end_of result ≡ Status.WriteFault → Rose (O.faults out.old) (O.faults out.new) }
@@ -162,6 +168,7 @@ fn follow_under<F: Shelf, O: Sink, L: Ledger>(
     requires { All IsBuilt plan.now.rules }
     ensures answer { IfSome (F.files shelf.old) (λ files. Answers (λ answer. answer ≡ followed plan.now true (bytes_of files trace_word)) (end_of result) (O.taken out.old) (O.taken out.new)) }
     ensures reads { IfSome (F.files shelf.old) (λ files. TraceReadsTo (end_of result) files (F.asked shelf.new) (F.rest shelf.new)) }
+    ensures asks { IfSome (F.files shelf.old) (λ files. F.asked shelf.new ≡ Some (asked_of files trace_word)) }
     ensures kinds { IsTraceEnd (end_of result) }
     ensures read_fault { IfReadFault (end_of result) (λ place. CannotReadTrace place (F.files shelf.old) (F.faults shelf.old) (F.faults shelf.new) (F.failed shelf.new) (F.asked shelf.new)) }
     ensures write_fault { end_of result ≡ Status.WriteFault → Rose (O.faults out.old) (O.faults out.new) }
