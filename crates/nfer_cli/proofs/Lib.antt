@@ -10,9 +10,11 @@ pub mod Returns
 pub mod FileBytes
 pub mod Changed
 pub mod Answered
-pub mod RulePieces
 pub mod Order
-pub mod Spelled
+pub mod Built
+pub mod Outside
+pub mod Passing
+pub mod Parsed
 pub mod EachOnce
 pub mod RuleLevels
 pub mod NameLevels

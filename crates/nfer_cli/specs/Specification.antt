@@ -2,8 +2,8 @@
 use Rattle.std.specs.Prelude.{◌≡◌, ℕ, Bool, true, false, not, ◌&&◌, List, [], ◌∷◌, ◌++◌, bytes_eq, Option, Some, None, option_map, option_and_then, is_none, if◌then◌else◌}
 use Rattle.std.specs.List.{list_any, list_all}
 use Rattle.nf_core.specs.Plan.{Plan}
-use Rattle.nf_core.specs.Trees.{Rule, atoms_of}
-use Rattle.nf_core.specs.Written.{plan_of, Levels, AreLevels}
+use Rattle.nf_core.specs.declared.trees.Rule.{Rule}
+use Rattle.nf_core.specs.Written.{atoms_of, plan_of, Levels, AreLevels}
 use Rattle.nf_core.specs.declared.operators.Op.{Op}
 use Rattle.nf_core.specs.declared.operators.Op.TheVariants as operator
 use Rattle.nf_core.specs.declared.trees.Atom.{Atom}
@@ -39,7 +39,7 @@ is_built_rule rule = is_built_body rule.body && is_none rule.filter && are_no_en
 -- the rules of some modules in order; none where a module has a name
 unfoldable pub rules_outside : List Module → Option (List Rule)
 rules_outside [] = Some []
-rules_outside (module ∷ modules) = if is_none module.name then option_map (λ rules. module.rules ++ rules) (rules_outside modules) else None
+rules_outside (first ∷ modules) = if is_none first.name then option_map (λ rules. first.rules ++ rules) (rules_outside modules) else None
 
 -- whether a name is the head of one of some rules
 abbrev pub is_head_of : List Rule → List ℕ → Bool
