@@ -1,7 +1,8 @@
 -- Rules without clauses: they have no keys, and what the loops made of them is their plan.
 use Rattle.std.proofs.Common.{◌≡◌, ℕ, Bool, true, false, cond, List, [], ◌∷◌, ◌++◌, length, map, flat_map, replicate, All, option_to_list, unwrap_or, bytes_eq, refl, sym, ap, ◌∙◌, if◌then◌else◌}
 use Rattle.std.proofs.lemmas.List.Elements.{All-head, All-tail}
-use Rattle.nf_core.specs.Written.{Levels, names_of, atoms_of, expressions_of, keys_read, keys_read_in, keys_mapped_in, keys_of_name, ascending, plan_rule, plan_of, level_of_name, IsBare}
+use Rattle.nf_core.specs.Trees.{atoms_of, expressions_of}
+use Rattle.nf_core.specs.Written.{Levels, names_of, keys_read, keys_read_in, keys_mapped_in, keys_of_name, ascending, plan_rule, plan_of, level_of_name, IsBare}
 use Rattle.nf_core.specs.declared.trees.Entry.{Entry}
 use Rattle.nf_core.specs.declared.trees.Rule.{Rule}
 use Rattle.nf_core.specs.declared.terms.PlanRule.{PlanRule}

@@ -6,3 +6,4 @@ pub mod PlanOf
 pub mod Bare
 pub mod Loops
 pub mod Example
+pub mod Back

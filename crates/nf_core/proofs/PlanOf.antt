@@ -4,7 +4,8 @@ use Rattle.std.specs.List.{AllByRecursion}
 use Rattle.std.proofs.lemmas.List.{length-map, map-append, get_or-map}
 use Rattle.std.proofs.lemmas.List.Elements.{All-from_recursion, recursion_from_All, All-map, Contains-get_or, Contains-append_left, Contains-append_right}
 use Rattle.nf_core.specs.Plan.{Plan, IsPlan, IsRuleOf, AreKeys, keys_of, level_of, level_by_rules, body_names, second_name, greatest}
-use Rattle.nf_core.specs.Written.{Levels, names_in, names_of, atoms_of, keys_read_in, keys_mapped_in, keys_of_name, place_of, first_of, link_of, plan_rule, level_of_name, plan_of, AreLevels, CanBePlanned}
+use Rattle.nf_core.specs.Trees.{atoms_of}
+use Rattle.nf_core.specs.Written.{Levels, names_in, names_of, keys_read_in, keys_mapped_in, keys_of_name, place_of, first_of, link_of, plan_rule, level_of_name, plan_of, AreLevels, CanBePlanned}
 use Rattle.nf_core.specs.declared.trees.Atom.{Atom}
 use Rattle.nf_core.specs.declared.trees.Body.{Body}
 use Rattle.nf_core.specs.declared.trees.Body.TheVariants as body

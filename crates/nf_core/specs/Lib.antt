@@ -7,5 +7,6 @@ pub mod Relations
 pub mod Expressions
 pub mod Identifiers
 pub mod Plan
+pub mod Trees
 pub mod Written
 pub mod Example

@@ -1,5 +1,5 @@
 -- What a plan takes from written rules: names, keys of a name, terms and levels.
-use Rattle.std.specs.Prelude.{◌≡◌, ℕ, suc, ◌<◌, ◌^◌, List, [], ◌∷◌, ◌++◌, length, map, filter, fold, flat_map, option_to_list, option_map, unwrap_or, Option, None, Some, bytes_eq, All, IsTrue, if◌then◌else◌}
+use Rattle.std.specs.Prelude.{◌≡◌, ℕ, suc, ◌<◌, ◌^◌, List, [], ◌∷◌, ◌++◌, length, map, filter, fold, flat_map, option_map, unwrap_or, Option, None, Some, bytes_eq, All, IsTrue, if◌then◌else◌}
 use Rattle.std.specs.List.{position_or_len}
 use Rattle.std.specs.Map.{lookup}
 use Rattle.indexmap.specs.IndexSet as distinct
@@ -7,6 +7,7 @@ use Rattle.std.specs.BTreeSet as sorted
 use Rattle.nf_core.specs.Texts.{text_cmp, text_eq}
 use Rattle.nf_core.specs.Identifiers.{is_identifier}
 use Rattle.nf_core.specs.Plan.{Plan, greatest}
+use Rattle.nf_core.specs.Trees.{atoms_of, expressions_of}
 use Rattle.nf_core.specs.declared.trees.Expr as expr
 use Rattle.nf_core.specs.declared.trees.Expr.TheOpen as node
 use Rattle.nf_core.specs.declared.trees.Expr.TheFolds.{fold-Expr}
@@ -29,12 +30,6 @@ each_once texts = fold (λ all text. distinct.insert_key text_eq all text) [] te
 abbrev pub ascending : List (List ℕ) → List (List ℕ)
 ascending texts = fold (λ all text. sorted.insert_key text_cmp all text) [] texts
 
--- the atoms of a body in reading order
-abbrev pub atoms_of : Body → List Atom
-atoms_of (body.One first) = first ∷ []
-atoms_of (body.Pair first op second) = first ∷ second ∷ []
-atoms_of (body.Unless first xop second) = first ∷ second ∷ []
-
 -- the names of a rule: its head, and then those of its body
 abbrev pub names_in : Rule → List (List ℕ)
 names_in rule = rule.head ∷ map (λ (atom : Atom). atom.name) (atoms_of rule.body)
@@ -42,10 +37,6 @@ names_in rule = rule.head ∷ map (λ (atom : Atom). atom.name) (atoms_of rule.b
 -- names are numbered by first appearance in the rules, each head before its body
 abbrev pub names_of : List Rule → List (List ℕ)
 names_of rules = each_once (flat_map names_in rules)
-
--- the expressions of a rule's clauses
-abbrev pub expressions_of : Rule → List expr.Expr
-expressions_of rule = option_to_list rule.filter ++ map (λ (entry : Entry). entry.value) rule.entries ++ option_to_list rule.start ++ option_to_list rule.stop
 
 -- the keys that a node reads under a label, given those that its operands read
 unfoldable pub keys_at_node : List ℕ → node.Expr-F (List (List ℕ)) → List (List ℕ)

@@ -4,6 +4,7 @@
 mod copies;
 mod errors;
 mod intervals;
+mod laws;
 mod lines;
 mod lists;
 mod numbering;
@@ -24,6 +25,7 @@ mod values;
 pub use copies::TryCopy;
 pub use errors::NoMemory;
 pub use intervals::{Change, Delta, Interval, IntervalList, Named, NamedList};
+pub use laws::{trees_are_expressions, trees_by_parts};
 pub use lines::Lines;
 pub use lists::ListOf;
 pub use operators::{BinOp, Op, Xop};

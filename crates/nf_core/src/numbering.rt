@@ -4,7 +4,8 @@ ghost use Rattle.std.specs.Prelude.{◌≡◌, ◌<◌, ◌^◌, List, [], lengt
 ghost use Rattle.std.proofs.Common.{replicate};
 ghost use Rattle.indexmap.specs.IndexSet.{insert_all};
 ghost use Rattle.nf_core.specs.Texts.{text_eq};
-ghost use Rattle.nf_core.specs.Written.{names_in, names_of, atoms_of, keys_of_name, place_of, first_of, link_of, plan_rule, level_of_name, IsBare};
+ghost use Rattle.nf_core.specs.Trees.{atoms_of};
+ghost use Rattle.nf_core.specs.Written.{names_in, names_of, keys_of_name, place_of, first_of, link_of, plan_rule, level_of_name, IsBare};
 ghost use Rattle.nf_core.specs.declared.trees.Atom.{Atom};
 ghost use Rattle.nf_core.specs.declared.trees.Rule.{Rule};
 

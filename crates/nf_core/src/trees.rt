@@ -7,6 +7,7 @@ use crate::operators::{BinOp, Op, Xop};
 use crate::texts::Text;
 use sqlite_items::Boxed;
 use std::alloc::Global;
+use std::marker::Model;
 
 /// An expression as it is written. `Start`, `Stop` and `Key` read the begin, the end and a key of
 /// the member with a label.
@@ -45,7 +46,8 @@ pub struct Entry {
     pub value: Expr,
 }
 
-/// A rule as it is written.
+/// A rule as it is written. The canonical text of each of its expressions is within the limits
+/// (`IsRule` of specs/Trees): at most 256 operators, and at most 64 parentheses open at once.
 #[derive(Debug, Drop)]
 pub struct Rule {
     pub head: Text,
@@ -54,6 +56,22 @@ pub struct Rule {
     pub entries: EntryList,
     pub start: Option<Expr>,
     pub stop: Option<Expr>,
+}
+
+impl Model for Rule {
+    ghost use Rattle.nf_core.specs.Trees as spec;
+    ghost use Rattle.nf_core.specs.contracts.trees.Expr as expr;
+    ghost use Rattle.std.specs.Coded.{codes};
+
+    ghost Value = { spec.Rule };
+
+    ghost coded = { Prim.hlevel (codes, expr.the_row.coded) };
+
+    ghost view = { λ r. record { head = r.head; body = r.body; filter = r.filter; entries = r.entries; start = r.start; stop = r.stop } };
+
+    ghost invariant = { λ r. spec.IsRule (record { head = r.head; body = r.body; filter = r.filter; entries = r.entries; start = r.start; stop = r.stop }) };
+
+    ghost inverse = { λ r. record { head = r.head; body = r.body; filter = r.filter; entries = r.entries; start = r.start; stop = r.stop } };
 }
 
 /// A module: a name or none, the names of the modules that it imports, and its rules.

@@ -1,17 +1,8 @@
 -- What a source is: its modules, or why it has none. (A stand-in: every source is refused as grammar.)
-use Rattle.std.specs.Prelude.{ℕ, List, Result, Ok, Err, All, IsTrue}
-use Rattle.nf_core.specs.Identifiers.{is_identifier}
-use Rattle.nf_core.specs.Written.{atoms_of}
-use Rattle.nf_core.specs.declared.trees.Atom.{Atom}
-use Rattle.nf_core.specs.declared.trees.Rule.{Rule}
+use Rattle.std.specs.Prelude.{ℕ, List, Result, Ok, Err}
 use Rattle.nf_core.specs.declared.trees.Module.{Module}
 use Rattle.nf_parse.specs.declared.fault.ParseFault.{ParseFault}
 use Rattle.nf_parse.specs.declared.fault.ParseFault.TheVariants as fault
-
--- a rule of which the head and the names of its atoms are identifiers
-pub record IsWritten (rule : Rule) : Type 0 where
-  pub head : IsTrue (is_identifier rule.head)
-  pub names : All (λ (atom : Atom). IsTrue (is_identifier atom.name)) (atoms_of rule.body)
 
 -- the answer to a source
 pub data Parses (source : List ℕ) : Result (List Module) ParseFault → Type 0 where

@@ -3,7 +3,8 @@
 ghost use Rattle.std.specs.Prelude.{◌≡◌, ◌⊎◌, ◌≤◌, All, Err, IfOk, length, flat_map};
 ghost use Rattle.nf_core.specs.declared.trees.Module.{Module};
 ghost use Rattle.nf_parse.specs.declared.fault.ParseFault.TheVariants as fault;
-ghost use Rattle.nf_parse.specs.Parses.{Parses, IsWritten};
+ghost use Rattle.nf_core.specs.Trees.{IsWritten};
+ghost use Rattle.nf_parse.specs.Parses.{Parses};
 
 use crate::fault::ParseFault;
 use nf_core::ModuleList;

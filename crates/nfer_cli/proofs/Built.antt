@@ -4,7 +4,8 @@ use Rattle.std.specs.List.{list_all}
 use Rattle.std.specs.Prelude.{option_and_then, map}
 use Rattle.std.proofs.lemmas.List.Elements.{All-nil, All-cons, All-head, All-tail, All-map}
 use Rattle.nf_core.specs.Identifiers.{is_identifier}
-use Rattle.nf_core.specs.Written.{atoms_of, names_in, IsBare}
+use Rattle.nf_core.specs.Trees.{atoms_of, IsWritten}
+use Rattle.nf_core.specs.Written.{names_in, IsBare}
 use Rattle.nf_core.specs.declared.operators.Op.{Op}
 use Rattle.nf_core.specs.declared.operators.Op.TheVariants.{Before}
 use Rattle.nf_core.specs.declared.operators.Op.TheVariants as operator
@@ -14,7 +15,6 @@ use Rattle.nf_core.specs.declared.trees.Body.TheVariants.{One, Pair, Unless}
 use Rattle.nf_core.specs.declared.trees.Entry.{Entry}
 use Rattle.nf_core.specs.declared.trees.Rule.{Rule}
 use Rattle.nf_core.specs.declared.trees.Module.{Module}
-use Rattle.nf_parse.specs.Parses.{IsWritten}
 use Rattle.nfer_cli.specs.ReadPlan.{all_rules}
 use Rattle.nfer_cli.specs.Specification.{is_plain_atom, is_before, is_built_body, are_no_entries, is_built_rule, rules_outside, built_rules, rules_of, reads_earlier_heads}
 use Rattle.nfer_cli.proofs.Bools.{both}

@@ -4,7 +4,8 @@ use Rattle.std.specs.List.{list_all}
 use Rattle.std.proofs.lemmas.List.Folds.{list_all-append, list_all-map}
 use Rattle.std.proofs.lemmas.List.Elements.{All-nil, All-append, All-head, All-tail, All-filter, All-contains, All-from_recursion, All-weaker, Contains-get_or}
 use Rattle.nf_core.specs.Plan.{Plan, greatest}
-use Rattle.nf_core.specs.Written.{Levels, level_of_name, atoms_of, names_of, names_below, plan_of, AreLevels}
+use Rattle.nf_core.specs.Trees.{atoms_of}
+use Rattle.nf_core.specs.Written.{Levels, level_of_name, names_of, names_below, plan_of, AreLevels}
 use Rattle.nf_core.specs.declared.trees.Atom.{Atom}
 use Rattle.nf_core.specs.declared.trees.Rule.{Rule}
 use Rattle.nf_core.proofs.PlanOf.{known_names}

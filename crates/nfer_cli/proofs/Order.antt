@@ -4,7 +4,7 @@ use Rattle.std.proofs.lemmas.List.{take_more, take_all, nil_from_length}
 use Rattle.std.specs.List.{list_any, list_all}
 use Rattle.nf_core.specs.declared.trees.Atom.{Atom}
 use Rattle.nf_core.specs.declared.trees.Rule.{Rule}
-use Rattle.nf_core.specs.Written.{atoms_of}
+use Rattle.nf_core.specs.Trees.{atoms_of}
 use Rattle.nfer_cli.specs.Specification.{is_head_of, reads_earlier_heads}
 
 -- of some rules the later ones read earlier heads alone, and these are their heads

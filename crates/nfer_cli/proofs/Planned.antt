@@ -5,7 +5,8 @@ use Rattle.std.proofs.lemmas.List.{length-append}
 use Rattle.std.proofs.lemmas.List.Elements.{All-nil, All-map}
 use Rattle.nf_core.specs.Texts.{text_eq}
 use Rattle.nf_core.specs.Plan.{Plan}
-use Rattle.nf_core.specs.Written.{Levels, atoms_of, names_in, names_of, keys_of_name, link_of, plan_rule, plan_of, term_of, place_of, AreLevels, IsBare, CanBePlanned}
+use Rattle.nf_core.specs.Trees.{atoms_of}
+use Rattle.nf_core.specs.Written.{Levels, names_in, names_of, keys_of_name, link_of, plan_rule, plan_of, term_of, place_of, AreLevels, IsBare, CanBePlanned}
 use Rattle.nf_core.specs.declared.trees.Atom.{Atom}
 use Rattle.nf_core.specs.declared.trees.Body.{Body}
 use Rattle.nf_core.specs.declared.trees.Body.TheVariants.{One, Pair, Unless}

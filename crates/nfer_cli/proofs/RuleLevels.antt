@@ -9,7 +9,8 @@ use Rattle.std.proofs.lemmas.List.Elements.{filter-append}
 use Rattle.std.proofs.lemmas.Slice.Eq.{bytes_eq-Decides}
 use Rattle.std.proofs.lemmas.Grind.{flat_map-append}
 use Rattle.nf_core.specs.Plan.{greatest}
-use Rattle.nf_core.specs.Written.{atoms_of, names_below}
+use Rattle.nf_core.specs.Trees.{atoms_of}
+use Rattle.nf_core.specs.Written.{names_below}
 use Rattle.nf_core.specs.declared.trees.Atom.{Atom}
 use Rattle.nf_core.specs.declared.trees.Rule.{Rule}
 use Rattle.nfer_cli.specs.Specification.{is_head_of, reads_earlier_heads}

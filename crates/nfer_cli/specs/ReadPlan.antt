@@ -1,7 +1,7 @@
 -- The plan of a specification.
 use Rattle.std.specs.Prelude.{◌≡◌, List, flat_map, Some, All}
 use Rattle.nf_core.specs.Plan.{Plan}
-use Rattle.nf_core.specs.declared.trees.Rule.{Rule}
+use Rattle.nf_core.specs.Trees.{Rule}
 use Rattle.nf_core.specs.declared.trees.Module.{Module}
 use Rattle.nf_model.specs.Built.{IsBuilt}
 use Rattle.nfer_cli.specs.Specification.{rules_of, IsPlanOf}

@@ -2,8 +2,8 @@
 use Rattle.std.specs.Prelude.{◌≡◌, ℕ, Bool, true, false, not, ◌&&◌, List, [], ◌∷◌, ◌++◌, bytes_eq, Option, Some, None, option_map, option_and_then, is_none, if◌then◌else◌}
 use Rattle.std.specs.List.{list_any, list_all}
 use Rattle.nf_core.specs.Plan.{Plan}
-use Rattle.nf_core.specs.declared.trees.Rule.{Rule}
-use Rattle.nf_core.specs.Written.{atoms_of, plan_of, Levels, AreLevels}
+use Rattle.nf_core.specs.Trees.{Rule, atoms_of}
+use Rattle.nf_core.specs.Written.{plan_of, Levels, AreLevels}
 use Rattle.nf_core.specs.declared.operators.Op.{Op}
 use Rattle.nf_core.specs.declared.operators.Op.TheVariants as operator
 use Rattle.nf_core.specs.declared.trees.Atom.{Atom}

@@ -2,7 +2,7 @@
 
 ghost use Rattle.std.specs.Prelude.{◌≡◌, not, bytes_eq, IfOk};
 ghost use Rattle.std.specs.List.{list_any, list_all};
-ghost use Rattle.nf_core.specs.Written.{atoms_of};
+ghost use Rattle.nf_core.specs.Trees.{atoms_of};
 ghost use Rattle.nfer_cli.specs.Specification.{reads_earlier_heads};
 
 use nf_core::{Body, NoMemory, Rule};

@@ -2,7 +2,8 @@
 
 ghost use Rattle.std.specs.Prelude.{◌≡◌, ◌⊎◌, ◌≤◌, ◌<◌, List, ℕ, Ok, Err, All, IfOk, IfErr, OnOk, OnErr, length, map, sum, get_or};
 ghost use Rattle.nf_parse.specs.declared.fault.ParseFault.{ParseFault};
-ghost use Rattle.nf_parse.specs.Parses.{Parses, IsWritten};
+ghost use Rattle.nf_core.specs.Trees.{IsWritten};
+ghost use Rattle.nf_parse.specs.Parses.{Parses};
 ghost use Rattle.nfer_cli.specs.Answers.{refused_at};
 ghost use Rattle.nfer_cli.specs.Parsing.{AreParsedTo, IsRefusal};
 ghost use Rattle.nfer_cli.specs.ReadPlan.{all_rules};

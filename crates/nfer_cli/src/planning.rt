@@ -1,7 +1,7 @@
 //! The plan of a specification.
 
 ghost use Rattle.std.specs.Prelude.{◌≡◌, ◌≤◌, All, length, None, IfOk, IfSome, IfNone};
-ghost use Rattle.nf_parse.specs.Parses.{IsWritten};
+ghost use Rattle.nf_core.specs.Trees.{IsWritten};
 ghost use Rattle.nfer_cli.specs.ReadPlan.{IsReadFrom, all_rules};
 ghost use Rattle.nfer_cli.specs.Sources.{specification_limit};
 ghost use Rattle.nfer_cli.specs.Specification.{rules_of};

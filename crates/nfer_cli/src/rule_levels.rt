@@ -1,7 +1,8 @@
 //! The levels of the names of rules.
 
 ghost use Rattle.std.specs.Prelude.{◌≡◌, ℕ, ◌+◌, ◌<◌, ◌^◌, max, true, List, [], length, map, fold, flat_map, IfOk, OnOk};
-ghost use Rattle.nf_core.specs.Written.{atoms_of, names_in, AreLevels};
+ghost use Rattle.nf_core.specs.Trees.{atoms_of};
+ghost use Rattle.nf_core.specs.Written.{names_in, AreLevels};
 ghost use Rattle.nfer_cli.specs.Specification.{reads_earlier_heads};
 ghost use Rattle.nfer_cli.specs.RuleLevels.{level_in, level_over, with_level, AreFound};
 

@@ -1,4 +1,5 @@
-use Rattle.std.proofs.Common.{◌-◌, ◌<◌, length, take, sym, ◌∙◌, arith, length-take}
+use Rattle.std.proofs.Common.{◌-◌, ◌<◌, length, take, sym, ap, ◌∙◌, arith, length-take}
+use Rattle.nf_core.specs.Trees.{Rule}
 use Rattle.nfer_cli.proofs.Order.{none_known, one_more, one_refused, all_known}
 use Rattle.nfer_cli.proofs.heads.reads_earlier_heads.Goals as goal
 
@@ -7,7 +8,7 @@ rules-init c = none_known _ _ c.new-heads.ensures.empty
 
 pub rules-preserved : goal.rules-preserved
 rules-preserved c =
-    one_more c.args.rules.now c.rules.rest.now c.rule-item.result c.rules.heads.keys c.insert.new.self.keys c.as_str.result c.in-len1-up.len_at_least c.rule-item.is c.rules.invariant c.as_str.ensures c.in_ok-insert.ensures.updates.0
+    one_more c.args.rules.now c.rules.rest.now c.rule-item.result c.rules.heads.keys c.insert.new.self.keys c.as_str.result c.in-len1-up.len_at_least c.rule-item.is c.rules.invariant (c.as_str.ensures ∙ ap (λ (rule : Rule). rule.head) c.rule.view_is) c.in_ok-insert.ensures.updates.0
     (sym c.if-not-reads_none_of.false ∙ c.reads_none_of.ensures)
 
 pub rules-smaller : goal.rules-smaller
@@ -18,5 +19,5 @@ returns c = all_known c.args.rules.now c.rules.rest.now c.rules.heads.keys c.rul
 
 pub returns-then-not-reads_none_of : goal.returns-then-not-reads_none_of
 returns-then-not-reads_none_of c =
-    one_refused c.args.rules.now c.rules.rest.now c.rule-item.result c.rules.heads.keys c.insert.new.self.keys c.as_str.result c.in-len1-up.len_at_least c.rule-item.is c.rules.invariant c.as_str.ensures c.in_ok-insert.ensures.updates.0
+    one_refused c.args.rules.now c.rules.rest.now c.rule-item.result c.rules.heads.keys c.insert.new.self.keys c.as_str.result c.in-len1-up.len_at_least c.rule-item.is c.rules.invariant (c.as_str.ensures ∙ ap (λ (rule : Rule). rule.head) c.rule.view_is) c.in_ok-insert.ensures.updates.0
     (sym c.if-not-reads_none_of.true ∙ c.reads_none_of.ensures)
