@@ -1,6 +1,6 @@
 //! The modules of a specification.
 
-ghost use Rattle.std.specs.Prelude.{◌≡◌, ◌⊎◌, ◌≤◌, ◌<◌, List, ℕ, Ok, Err, All, IfOk, IfErr, OnOk, OnErr, length, map, sum, get_or};
+ghost use Rattle.std.specs.Prelude.{◌≡◌, ◌+◌, ◌≤◌, ◌<◌, Ok, All, IfOk, IfErr, OnOk, length, map, sum, take};
 ghost use Rattle.nf_parse.specs.declared.fault.ParseFault.{ParseFault};
 ghost use Rattle.nf_core.specs.Trees.{IsWritten};
 ghost use Rattle.nf_parse.specs.Parses.{Parses};

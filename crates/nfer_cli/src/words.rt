@@ -1,6 +1,7 @@
 //! The words of the command line.
 
 ghost use Rattle.std.specs.Prelude.{◌≡◌, [], ◌∷◌, ◌++◌, option_map, slice_index_or, OnOk, OnErr};
+ghost use Rattle.std.specs.List.{list_all};
 ghost use Rattle.nfer_cli.specs.Words.{asked, file_word, are_file_words, is_file_word, trace_word};
 ghost use Rattle.nfer_cli.specs.Commands.{asked_by};
 
@@ -100,7 +101,17 @@ fn file_at(files: &[Text], place: usize) -> &str
 fn are_file_words(files: &[Text]) -> bool
     ensures { result ≡ are_file_words files.now }
 {
-    !files.is_empty() && files.len() < FILES_LIMIT && files.iter().all(|file| is_file_word(file.as_str()))
+    match files {
+        [] => false,
+        _ => files.len() < FILES_LIMIT && name_files(files),
+    }
+}
+
+// Whether each word can name a file.
+fn name_files(words: &[Text]) -> bool
+    ensures { result ≡ list_all is_file_word words.now }
+{
+    words.iter().all(|word| is_file_word(word.as_str()))
 }
 
 // Whether a word can name a file: it doesn't begin with `-`.
