@@ -1,6 +1,6 @@
 -- Sources parsed one after the other.
-use Rattle.std.proofs.Common.{◌≡◌, ℕ, zero, suc, ◌+◌, ◌<◌, ◌≤◌, List, [], ◌∷◌, ◌++◌, length, get_or, take, drop, map, flat_map, All, refl, ap, sym, ◌∙◌, subst, arith, append_assoc, append-nil, Result, Ok, Err, ⊎_elim}
-use Rattle.std.specs.Prelude.{sum, ◌⊎◌, inl, inr}
+use Rattle.std.proofs.Common.{◌≡◌, ℕ, zero, suc, ◌+◌, ◌<◌, ◌≤◌, List, [], ◌∷◌, ◌++◌, length, get_or, take, drop, map, flat_map, All, refl, ap, sym, ◌∙◌, subst, arith, append_assoc, append-nil, Result, Ok, Err, ⊎_elim, ◌⊎◌, inl, inr}
+use Rattle.std.specs.Prelude.{sum}
 use Rattle.std.proofs.lemmas.List.{take_more, drop_more, length-append}
 use Rattle.std.proofs.Math.Seq.{drop-length}
 use Rattle.std.proofs.lemmas.List.Elements.{All-append}
@@ -70,6 +70,10 @@ refusal_here sources place done source why found low at before is answered = ⊎
     (λ (full : found ≡ Err fault.NoMemory). inl (let no_memory : why ≡ fault.NoMemory = cc in ap (refused_at place) no_memory))
     (λ (p : Parses source found). inr (place, why, refused_here sources place done source why low at before (subst (Parses source) is p), refl))
     answered
+
+-- the modules that a call of the parser answered
+pub parsed_here : (source : List ℕ) (modules : List Module) (found : Result (List Module) ParseFault) → found ≡ Ok modules → (found ≡ Err fault.NoMemory) ⊎ Parses source found → Parses source (Ok modules)
+parsed_here source modules found is answered = ⊎_elim (λ (full : found ≡ Err fault.NoMemory). absurd cc) (λ (p : Parses source found). subst (Parses source) is p) answered
 
 -- the rules of the modules of one more source
 pub rules_more : (done modules now : List Module) → now ≡ done ++ modules → all_rules now ≡ all_rules done ++ all_rules modules
