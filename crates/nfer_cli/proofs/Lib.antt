@@ -15,6 +15,7 @@ pub mod Built
 pub mod Outside
 pub mod Passing
 pub mod Parsed
+pub mod FilesRead
 pub mod EachOnce
 pub mod RuleLevels
 pub mod NameLevels

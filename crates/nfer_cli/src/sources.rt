@@ -1,6 +1,6 @@
 //! The files of a specification, read in turn.
 
-ghost use Rattle.std.specs.Prelude.{◌≡◌, ◌+◌, ◌-◌, ◌<◌, ◌≤◌, None, true, length, map, sum, take, slice_index_or, IfOk, IfErr, IfSome, OnOk};
+ghost use Rattle.std.specs.Prelude.{◌≡◌, ◌+◌, ◌<◌, ◌≤◌, None, [], length, take, slice_index_or, IfOk, IfErr, IfSome, OnOk};
 ghost use Rattle.nf_io.specs.Causes.{Rose};
 ghost use Rattle.nf_io.specs.Files.{bytes_of, asked_of};
 ghost use Rattle.nfer_cli.specs.Answers.{StandsIn, StandsAtEnd, StandsPast, StandsAfter, CannotRead, IfReadFault, AsksWithin, piece_limit};
