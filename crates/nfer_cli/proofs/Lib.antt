@@ -16,6 +16,7 @@ pub mod Outside
 pub mod Passing
 pub mod Parsed
 pub mod FilesRead
+pub mod AskedFor
 pub mod EachOnce
 pub mod RuleLevels
 pub mod NameLevels

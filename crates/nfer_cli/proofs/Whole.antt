@@ -93,11 +93,13 @@ plan_defines sources trace modules plan fits parsed read reads answer is =
     subst (λ n. FollowDefines sources trace n answer) count
     (subst (λ (a : Answer). FollowDefines sources trace (suc (length sources)) a) (sym is.1) (planned fits parsed read.read read.made))
 
-pub answers_planned : (told : Option Files) (sources : List (List ℕ)) (modules : List Module) (plan : Plan) (s : Status) (before now : Option (List ℕ)) → passing specification_limit sources ≡ None → AreParsed sources (Ok modules) → IsReadFrom modules plan
-    → IfSome told (λ files. Answers (UnderPlan (length sources) plan (bytes_of files trace_word)) s before now)
+pub answers_planned : (told : Option Files) (sources : List (List ℕ)) (modules : List Module) (plan : Plan) (place : ℕ) (s : Status) (before now : Option (List ℕ)) → passing specification_limit sources ≡ None → AreParsed sources (Ok modules) → IsReadFrom modules plan
+    → place ≡ length sources → IfSome told (λ files. Answers (UnderPlan place plan (bytes_of files trace_word)) s before now)
     → IfSome told (λ files. Answers (FollowDefines sources (bytes_of files trace_word)) s before now)
-answers_planned None sources modules plan s before now fits parsed read a = tt
-answers_planned (Some files) sources modules plan s before now fits parsed read a = answers_for _ _ s before now (plan_defines sources (bytes_of files trace_word) modules plan fits parsed read) a
+answers_planned None sources modules plan place s before now fits parsed read at a = tt
+answers_planned (Some files) sources modules plan place s before now fits parsed read at a =
+    answers_for _ _ s before now (plan_defines sources (bytes_of files trace_word) modules plan fits parsed read)
+    (subst (λ n. Answers (UnderPlan n plan (bytes_of files trace_word)) s before now) at a)
 
 pub answers_unbuilt : (told : Option Files) (sources : List (List ℕ)) (modules : List Module) (sink : Option (List ℕ)) → passing specification_limit sources ≡ None → AreParsed sources (Ok modules) → rules_of modules ≡ None
     → IfSome told (λ files. Answers (FollowDefines sources (bytes_of files trace_word)) status.Unbuilt sink sink)
@@ -151,7 +153,7 @@ answers_unread answered (Some files) names status.SpecificationTooLong last rest
     record { reads = suc past.place; answer = refusal status.SpecificationTooLong; defined = too_long past.passes; ends = refl; writes = Took-none sink }
 answers_unread answered (Some files) names (status.ReadFault place) last rest sink kind long within before =
     let sources = sources_of files names in
-    let low : place < length sources = omega (arith, length-map (bytes_of files) names, within) in
+    let low : place < length sources = omega (arith, length-map names (bytes_of files), within) in
     let fits : passing specification_limit (take place sources) ≡ None = ap (passing specification_limit) (take-map (bytes_of files) place names) ∙ before in
     let some = later_answer answered sources (bytes_of files trace_word) place low fits in
     record { reads = some.0; answer = some.1; defined = some.2; ends = some.3; writes = TookPrefix-none sink some.1.text }
