@@ -1,5 +1,5 @@
 -- Which files are asked for, over a whole call.
-use Rattle.std.proofs.Common.{◌≡◌, ℕ, ◌+◌, ◌<◌, ◌&&◌, Bool, true, false, List, [], ◌∷◌, ◌++◌, length, get_or, bytes_eq, codes, Option, Some, None, IfSome, refl, sym, ap, ◌∙◌, subst, arith, ◌⊎◌, inl, inr, ⊎_elim, if◌then◌else◌}
+use Rattle.std.proofs.Common.{◌≡◌, ℕ, ◌+◌, ◌<◌, ◌^◌, ◌&&◌, Bool, true, false, List, [], ◌∷◌, ◌++◌, length, get_or, bytes_eq, codes, Option, Some, None, IfSome, refl, sym, ap, ◌∙◌, subst, arith, ◌⊎◌, inl, inr, ⊎_elim, if◌then◌else◌}
 use Rattle.std.specs.Prelude.{slice_index_or, nat_lt}
 use Rattle.std.specs.List.{list_all}
 use Rattle.std.proofs.lemmas.Bool.{ltb-true}
@@ -42,18 +42,23 @@ asks_more (Some files) names before now asks = ⊎_elim
     asks
 
 -- and so is the trace behind them
-pub asks_then : (told : Option Files) (names : List (List ℕ)) (before middle now : Option (List ℕ)) → IfSome told (λ files. AsksWithin names files before middle)
+trace_after : (told : Option Files) (names : List (List ℕ)) (before middle now : Option (List ℕ)) → IfSome told (λ files. AsksWithin names files before middle)
     → IfSome told (λ files. (now ≡ middle) ⊎ (now ≡ Some (asked_of files trace_word))) → IfSome told (λ files. AsksWithin (names ++ trace_word ∷ []) files before now)
-asks_then None names before middle now first then = tt
-asks_then (Some files) names before middle now first then = ⊎_elim
+trace_after None names before middle now first next = tt
+trace_after (Some files) names before middle now first next = ⊎_elim
     (λ (same : now ≡ middle). subst (λ (last : Option (List ℕ)). AsksWithin (names ++ trace_word ∷ []) files before last) (sym same) (asks_more (Some files) names before middle first))
     (λ (trace : now ≡ Some (asked_of files trace_word)).
     inr (length names, omega (arith, length-append names (trace_word ∷ [])), trace ∙ ap (λ (name : List ℕ). Some (asked_of files name)) (sym (get_or-append_seam names trace_word [] []))))
-    then
+    next
 
-pub asks_asked : (told : Option Files) (question known : Option Asked) (before now : Option (List ℕ)) → question ≡ known → IfSome told (λ files. AsksWithin (file_words known) files before now)
+pub asks_then : (told same : Option Files) (names : List (List ℕ)) (before middle now : Option (List ℕ)) → same ≡ told → IfSome told (λ files. AsksWithin names files before middle)
+    → IfSome same (λ files. (now ≡ middle) ⊎ (now ≡ Some (asked_of files trace_word))) → IfSome told (λ files. AsksWithin (names ++ trace_word ∷ []) files before now)
+asks_then told same names before middle now is first next =
+    trace_after told names before middle now first (subst (λ (t : Option Files). IfSome t (λ files. (now ≡ middle) ⊎ (now ≡ Some (asked_of files trace_word)))) is next)
+
+pub asks_asked : (told : Option Files) (question : Option Asked) (names : List (List ℕ)) (before now : Option (List ℕ)) → IfSome told (λ files. AsksWithin (names ++ trace_word ∷ []) files before now) → question ≡ Some (Follow names)
     → IfSome told (λ files. AsksWithin (file_words question) files before now)
-asks_asked told question known before now is asks = subst (λ (q : Option Asked). IfSome told (λ files. AsksWithin (file_words q) files before now)) (sym is) asks
+asks_asked told question names before now asks is = subst (λ (q : Option Asked). IfSome told (λ files. AsksWithin (file_words q) files before now)) (sym is) asks
 
 -- a file that couldn't be read is one of them
 pub fault_within : (s : Status) (names : List (List ℕ)) (files : Option Files) (before now : ℕ) (failed : Bool) (last : Option (List ℕ)) → IfReadFault s (λ place. CannotRead names place files before now failed last)

@@ -13,4 +13,4 @@ pub follow_files-requires : goal.follow_files-requires
 follow_files-requires g c = some_files c.args.words.now _ (search rules)
 
 pub returns-in-Some-Follow-clause-asks : goal.returns-in-Some-Follow-clause-asks
-returns-in-Some-Follow-clause-asks g c = asks_asked (g.F.Shelf.files c.args.shelf.now) (asked c.args.words.now) _ _ _ (search rules) c.follow_files.ensures.asks
+returns-in-Some-Follow-clause-asks g c = asks_asked (g.F.Shelf.files c.args.shelf.now) (asked c.args.words.now) _ _ _ c.follow_files.ensures.asks (search rules)

@@ -1,5 +1,4 @@
-use Rattle.std.proofs.Common.{◌≡◌, Option, Some, None, IfSome, subst, rules}
-use Rattle.nf_io.specs.Files.{Files}
+use Rattle.std.proofs.Common.{rules}
 use Rattle.nfer_cli.specs.Results.{IsUnread}
 use Rattle.nfer_cli.proofs.AskedFor.{asks_more, asks_then, fault_within}
 use Rattle.nfer_cli.proofs.Whole.{answers_unread}
@@ -20,5 +19,4 @@ returns-in_err-sources-clause-asks g c = asks_more _ c.args.files.now _ _ c.read
 
 pub returns-clause-asks : goal.returns-clause-asks
 returns-clause-asks g c =
-    asks_then _ c.args.files.now _ _ _ c.read_sources.ensures.asks
-    (subst (λ (told : Option Files). IfSome told _) c.read_sources.ensures.files c.follow_sources.ensures.asks)
+    asks_then (g.F.Shelf.files c.args.shelf.now) (g.F.Shelf.files c.read_sources.new.shelf) c.args.files.now _ _ _ c.read_sources.ensures.files c.read_sources.ensures.asks c.follow_sources.ensures.asks
