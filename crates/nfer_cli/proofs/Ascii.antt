@@ -1,13 +1,10 @@
 -- What has the form of a name is ASCII.
-use Rattle.std.proofs.Common.{◌≡◌, ℕ, ◌<◌, true, not, ◌||◌, nat_lt, List, [], ◌∷◌, bytes_eq, sym, subst, arith}
-use Rattle.std.specs.List.{list_all, list_any, join_with_byte}
+use Rattle.std.proofs.Common.{◌≡◌, ℕ, ◌<◌, true, ◌||◌, List, [], ◌∷◌, arith}
+use Rattle.std.specs.List.{list_all}
 use Rattle.std.specs.Str.{IsAscii}
-use Rattle.std.proofs.lemmas.Bool.{ltb-true}
 use Rattle.std.proofs.lemmas.Bool.Decides.{nat_tests}
-use Rattle.std.proofs.lemmas.Slice.Eq.{bytes_eq-Decides}
-use Rattle.std.proofs.lemmas.Str.{IsAscii-append}
 use Rattle.std.proofs.lemmas.Str.Ascii.{IsAscii-nil, IsAscii-cons}
-use Rattle.nf_core.specs.Identifiers.{is_letter, is_digit, has_name_form, is_identifier, keywords}
+use Rattle.nf_core.specs.Identifiers.{is_letter, is_digit, has_name_form}
 use Rattle.nfer_cli.proofs.Bools.{both}
 
 letter_ascii : (b : ℕ) → is_letter b ≡ true → b < 128

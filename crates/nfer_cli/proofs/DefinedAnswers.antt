@@ -1,5 +1,5 @@
 -- Every question has a defined answer.
-use Rattle.std.proofs.Common.{◌≡◌, ℕ, zero, suc, ◌+◌, ◌<◌, ◌≤◌, max, Bool, true, false, cond, List, [], ◌∷◌, ◌++◌, length, take, get_or, fold, flat_map, bytes_eq, refl, subst, arith, Option, Some, None, Result, Ok, Err}
+use Rattle.std.proofs.Common.{◌≡◌, ℕ, zero, suc, ◌+◌, ◌<◌, ◌≤◌, max, true, cond, List, [], ◌∷◌, ◌++◌, length, take, get_or, fold, flat_map, bytes_eq, refl, subst, arith, Option, Some, None, Result, Ok, Err}
 use Rattle.std.proofs.lemmas.List.{take_all, get_or_default}
 use Rattle.nf_core.specs.Written.{Levels, names_in, plan_of, AreLevels}
 use Rattle.nf_core.specs.declared.trees.Rule.{Rule}

@@ -1,9 +1,9 @@
 -- Files read one after the other.
 use Rattle.std.proofs.Common.{◌≡◌, ℕ, ◌+◌, ◌-◌, ◌<◌, ◌≤◌, List, [], ◌∷◌, ◌++◌, length, take, drop, map, get_or, Option, Some, None, IfSome, refl, sym, ap, ◌∙◌, subst, arith, inl, inr}
-use Rattle.std.specs.Prelude.{slice_index_or, sum}
+use Rattle.std.specs.Prelude.{slice_index_or}
 use Rattle.std.proofs.lemmas.List.{take_more, take_all, drop_more, take-append-drop, take-map, map-append}
 use Rattle.nf_io.specs.Files.{Files, bytes_of, asked_of}
-use Rattle.nfer_cli.specs.Answers.{StandsIn, StandsAtEnd, StandsPast, StandsAfter, AsksWithin, piece_limit}
+use Rattle.nfer_cli.specs.Answers.{StandsIn, StandsAtEnd, StandsPast, AsksWithin, piece_limit}
 use Rattle.nfer_cli.specs.Sources.{specification_limit, sources_of, passing}
 use Rattle.nfer_cli.proofs.Passing.{total, passing_here}
 

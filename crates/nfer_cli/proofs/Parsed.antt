@@ -1,6 +1,5 @@
 -- Sources parsed one after the other.
-use Rattle.std.proofs.Common.{◌≡◌, ℕ, zero, suc, ◌+◌, ◌<◌, ◌≤◌, List, [], ◌∷◌, ◌++◌, length, get_or, take, drop, map, flat_map, All, refl, ap, sym, ◌∙◌, subst, arith, append_assoc, append-nil, Result, Ok, Err, ⊎_elim, ◌⊎◌, inl, inr}
-use Rattle.std.specs.Prelude.{sum}
+use Rattle.std.proofs.Common.{◌≡◌, ℕ, suc, ◌+◌, ◌<◌, ◌≤◌, List, [], ◌∷◌, ◌++◌, length, get_or, take, drop, All, refl, ap, sym, ◌∙◌, subst, arith, append_assoc, append-nil, Result, Ok, Err, ⊎_elim, ◌⊎◌, inl, inr}
 use Rattle.std.proofs.lemmas.List.{take_more, drop_more, length-append}
 use Rattle.std.proofs.Math.Seq.{drop-length}
 use Rattle.std.proofs.lemmas.List.Elements.{All-append}
@@ -14,8 +13,6 @@ use Rattle.nfer_cli.specs.Sources.{AreParsed, none, more, refused, later}
 use Rattle.nfer_cli.specs.Parsing.{joined, AreParsedTo, IsRefusal}
 use Rattle.nfer_cli.specs.Answers.{refused_at}
 use Rattle.nfer_cli.specs.ReadPlan.{all_rules}
-use Rattle.nfer_cli.specs.declared.status.Status.{Status}
-use Rattle.nfer_cli.specs.declared.status.Status.TheVariants as status
 use Rattle.nfer_cli.proofs.Passing.{total, total_more}
 
 -- the answer to some sources

@@ -1,5 +1,5 @@
 -- The defined answer to the words and the files, and how the end of a call stands to it.
-use Rattle.std.specs.Prelude.{◌≡◌, ◌⊎◌, ℕ, suc, ◌+◌, ◌-◌, ◌≤◌, ◌<◌, Bool, true, nat_lt, List, [], drop, take, map, sum, length, Result, Ok, Err, Option, Some, None, IfSome, ⊤, slice_index_or, if◌then◌else◌}
+use Rattle.std.specs.Prelude.{◌≡◌, ◌⊎◌, ℕ, suc, ◌+◌, ◌-◌, ◌≤◌, ◌<◌, Bool, true, nat_lt, List, [], drop, take, map, sum, length, Ok, Err, Option, Some, None, IfSome, ⊤, slice_index_or, if◌then◌else◌}
 use Rattle.nf_core.specs.Plan.{Plan}
 use Rattle.nf_core.specs.Trees.{Rule}
 use Rattle.nf_core.specs.declared.trees.Module.{Module}

@@ -1,4 +1,4 @@
-use Rattle.std.proofs.Common.{◌≡◌, None, Ok, length, rules, arith}
+use Rattle.std.proofs.Common.{◌≡◌, None, Ok, rules, arith}
 use Rattle.nfer_cli.specs.Parsing.{IsRefusal}
 use Rattle.nfer_cli.specs.ReadPlan.{IsReadFrom}
 use Rattle.nfer_cli.specs.Sources.{specification_limit, AreParsed}

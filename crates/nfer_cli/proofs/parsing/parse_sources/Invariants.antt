@@ -1,4 +1,4 @@
-use Rattle.std.proofs.Common.{◌≡◌, ◌≤◌, length, take, map, All}
+use Rattle.std.proofs.Common.{◌≤◌, length, take, map, All}
 use Rattle.std.specs.Prelude.{sum}
 use Rattle.nf_core.specs.Trees.{IsWritten}
 use Rattle.nfer_cli.specs.Parsing.{AreParsedTo}

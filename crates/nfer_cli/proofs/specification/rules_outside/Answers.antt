@@ -1,4 +1,4 @@
-use Rattle.std.proofs.Common.{◌≡◌, ◌++◌, length, sym, ◌∙◌, ap, Some, arith}
+use Rattle.std.proofs.Common.{◌++◌, length, sym, ◌∙◌, ap, Some, arith}
 use Rattle.std.specs.Vec.Iter.{into_iter_items, into_iter_len}
 use Rattle.nfer_cli.specs.Specification.{rules_outside}
 use Rattle.nfer_cli.proofs.Outside.{in_front, is_named, is_unnamed, taken, named, no_modules, ended}
