@@ -1,5 +1,5 @@
 -- Rules taken from modules, one after the other.
-use Rattle.std.proofs.Common.{◌≡◌, ℕ, true, false, List, [], ◌∷◌, ◌++◌, Option, Some, None, option_map, is_none, is_some, refl, ap, append_assoc, append-nil, length, arith}
+use Rattle.std.proofs.Common.{◌≡◌, ℕ, true, false, List, [], ◌∷◌, ◌++◌, Option, Some, None, option_map, is_none, refl, ap, append_assoc, append-nil, length, arith}
 use Rattle.std.proofs.lemmas.List.{nil_from_length}
 use Rattle.nf_core.specs.declared.trees.Module.{Module}
 use Rattle.nf_core.specs.declared.trees.Rule.{Rule}
@@ -12,14 +12,6 @@ in_front done = option_map (λ rules. done ++ rules)
 in_front_more : (done added : List Rule) (rest : Option (List Rule)) → in_front (done ++ added) rest ≡ in_front done (option_map (λ rules. added ++ rules) rest)
 in_front_more done added None = refl
 in_front_more done added (Some rules) = ap Some (append_assoc done added rules)
-
-pub is_named : (name : Option (List ℕ)) → is_some name ≡ true → is_none name ≡ false
-is_named None e = cc
-is_named (Some text) e = refl
-
-pub is_unnamed : (name : Option (List ℕ)) → is_some name ≡ false → is_none name ≡ true
-is_unnamed None e = refl
-is_unnamed (Some text) e = cc
 
 -- a module without name
 pub taken : (done : List Rule) (first : Module) (rest : List Module) → is_none first.name ≡ true → in_front (done ++ first.rules) (rules_outside rest) ≡ in_front done (rules_outside (first ∷ rest))

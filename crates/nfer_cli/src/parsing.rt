@@ -12,7 +12,7 @@ ghost use Rattle.nfer_cli.specs.Sources.{AreParsed};
 use crate::status::Status;
 use nf_core::{Lines, Module};
 use nf_parse::{ParseFault, parse};
-use std::alloc::{AllocError, Global};
+use std::alloc::Global;
 
 /// The modules of some sources, each parsed in turn, in order. The status of the first source that is
 /// refused, by its place, counted from 0 (`AreParsed` of specs/Sources, `refused_at` of

@@ -1,12 +1,12 @@
 //! The rules of a specification.
 
-ghost use Rattle.std.specs.Prelude.{◌≡◌, IfOk};
+ghost use Rattle.std.specs.Prelude.{◌≡◌, is_none, IfOk};
 ghost use Rattle.std.specs.List.{list_all};
 ghost use Rattle.nfer_cli.specs.Specification.{is_plain_atom, is_built_body, is_built_rule, rules_outside, rules_of};
 
 use crate::heads::reads_earlier_heads;
-use nf_core::{Atom, Body, Module, NoMemory, Op, Rule, RuleList};
-use std::alloc::{AllocError, Global};
+use nf_core::{Atom, Body, Module, NoMemory, Op, Rule, RuleList, Text};
+use std::alloc::Global;
 
 /// The rules of some modules in order. None exactly where they aren't in the form of this stage: rules
 /// `H :- A` or `H :- A before B` outside modules, without clauses and labels, A and B different, and no
@@ -35,12 +35,19 @@ fn rules_outside(alloc: Global, modules: Vec<Module>) -> Result<Option<RuleList>
             imports: _,
             rules: added,
         } = module;
-        if name.is_some() {
+        if !is_outside(&name) {
             return Ok(None);
         }
         rules.append(&mut added.into_vec())?;
     }
     Ok(Some(RuleList::from_vec(rules)))
+}
+
+// Whether the rules of a module with this name, if it has one, stand outside modules.
+fn is_outside(name: &Option<Text>) -> bool
+    ensures { result ≡ is_none name.now }
+{
+    name.is_none()
 }
 
 // Whether all rules are such as this stage builds.
