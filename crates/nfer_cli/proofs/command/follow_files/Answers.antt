@@ -10,8 +10,8 @@ returns-in_err-sources-clause-answer g c =
     let told = g.F.Shelf.files c.args.shelf.now in
     let kind : IsUnread status = search rules in
     let answers = answers_unread c.every_source_is_answered.ensures.some told c.args.files.now status (g.F.Shelf.asked c.read_sources.new.shelf) (g.F.Shelf.rest c.read_sources.new.shelf) (g.O.Sink.taken c.args.out.now) kind
-        (λ is. c.read_sources.ensures.too_long (search (rules, is)))
-        (fault_within status c.args.files.now told _ _ _ _ c.in_err-sources.ensures.read_fault) c.in_err-sources.ensures.before in
+    (λ is. c.read_sources.ensures.too_long (search (rules, is)))
+    (fault_within status c.args.files.now told _ _ _ _ c.in_err-sources.ensures.read_fault) c.in_err-sources.ensures.before in
     search (rules, answers)
 
 pub returns-in_err-sources-clause-asks : goal.returns-in_err-sources-clause-asks
