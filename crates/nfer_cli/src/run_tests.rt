@@ -425,8 +425,8 @@ fn tells_faults(rt: HostRuntime) -> Result<(), Fail> {
     Ok(())
 }
 
-// The words, the bytes of two files of a specification and of a trace, and the status and the message
-// where there are as many.
+// The words, how many bytes two files of a specification and a trace have, and the status and the
+// message. The files are a comment each, and the lines of the trace are empty.
 static LIMITS: [(&[&str], usize, usize, usize, u8, &str); 6] = [
     (&["follow", "--full", "s.nfer"], 1_048_576, 0, 0, 0, ""),
     (
@@ -467,8 +467,8 @@ static LIMITS: [(&[&str], usize, usize, usize, u8, &str); 6] = [
 #[test]
 fn keeps_limits(rt: HostRuntime) -> Result<(), Fail> {
     for (words, first, second, trace, status, err) in &LIMITS {
-        let first = repeated(rt.alloc(), b'\n', *first)?;
-        let second = repeated(rt.alloc(), b'\n', *second)?;
+        let first = repeated(rt.alloc(), b'/', *first)?;
+        let second = repeated(rt.alloc(), b'/', *second)?;
         let trace = repeated(rt.alloc(), b'\n', *trace)?;
         let given = Given {
             words,
