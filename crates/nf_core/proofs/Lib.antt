@@ -7,3 +7,4 @@ pub mod Bare
 pub mod Loops
 pub mod Example
 pub mod Back
+pub mod Limits

@@ -12,6 +12,8 @@ use Rattle.nf_core.specs.Identifiers.{is_identifier, has_name_form, keywords}
 use Rattle.std.proofs.Common.{arith, rules}
 use Rattle.std.proofs.lemmas.List.Elements.{All-nil, All-from_recursion}
 use Rattle.nf_core.specs.Plan.{Plan, IsPlan, AreKeys, IsRuleOf, level_of, level_by_rules}
+use Rattle.nf_core.specs.Trees as tree
+use Rattle.nf_core.specs.Trees.{Tree, operators, open_parens, level, op_level, left_in_parens, right_in_parens, operand_in_parens}
 use Rattle.nf_core.specs.Written.{names_of, keys_read, keys_at_node, keys_of_name, term_of, term_at_node, plan_of, Levels, IsLevelOf, AreLevels}
 use Rattle.nf_core.specs.declared.values.Value.{Value}
 use Rattle.nf_core.specs.declared.values.Value.TheVariants as v
@@ -167,6 +169,43 @@ blocking = refl
 names : map is_identifier (codes "w" ∷ codes "_a1" ∷ codes "9a" ∷ codes "before" ∷ [] ∷ codes "beforehand" ∷ codes "a-b" ∷ []) ≡ true ∷ true ∷ false ∷ false ∷ false ∷ true ∷ false ∷ []
 unfolding is_identifier has_name_form keywords
 names = refl
+
+-- ---- canonical parentheses
+abbrev whole : ℕ → Tree
+whole k = tree.Int (pos k)
+
+abbrev read : List ℕ → Tree
+read key = tree.Key (codes "x") key
+
+-- `!(x.k & x.j) | 1 - (2 - 3) < - -x.n`
+abbrev mixed : Tree
+mixed = tree.Bin op.Or (tree.Not (tree.Bin op.And (read (codes "k")) (read (codes "j")))) (tree.Bin op.Lt (tree.Bin op.Sub (whole 1) (tree.Bin op.Sub (whole 2) (whole 3))) (tree.Neg (tree.Neg (read (codes "n")))))
+
+-- `(1 - 2) - 3`, `1 - (2 - 3)`, `(1 < 2) = true`, `-(1 + 2)`, `-(1 - (2 - 3))`
+abbrev grouped : List Tree
+grouped = mixed
+    ∷ tree.Bin op.Sub (tree.Bin op.Sub (whole 1) (whole 2)) (whole 3)
+    ∷ tree.Bin op.Sub (whole 1) (tree.Bin op.Sub (whole 2) (whole 3))
+    ∷ tree.Bin op.Eq (tree.Bin op.Lt (whole 1) (whole 2)) (tree.Bool true)
+    ∷ tree.Neg (tree.Bin op.Add (whole 1) (whole 2))
+    ∷ tree.Neg (tree.Bin op.Sub (whole 1) (tree.Bin op.Sub (whole 2) (whole 3))) ∷ []
+
+counted_operators : map operators grouped ≡ 8 ∷ 2 ∷ 2 ∷ 2 ∷ 2 ∷ 3 ∷ []
+unfolding operators
+counted_operators = refl
+
+counted_parens : map open_parens grouped ≡ 1 ∷ 0 ∷ 1 ∷ 1 ∷ 1 ∷ 2 ∷ []
+unfolding open_parens level op_level
+counted_parens = refl
+
+-- `a | b` and `a & b` under `&`, `a < b` left and right of `=`, `a + b` and `a * b` left and right of `*`
+in_parens : left_in_parens op.And (tree.Bin op.Or (read []) (read [])) ∷ left_in_parens op.And (tree.Bin op.And (read []) (read [])) ∷ right_in_parens op.And (tree.Bin op.And (read []) (read []))
+    ∷ left_in_parens op.Eq (tree.Bin op.Lt (read []) (read [])) ∷ right_in_parens op.Eq (tree.Bin op.Lt (read []) (read []))
+    ∷ left_in_parens op.Mul (tree.Bin op.Add (read []) (read [])) ∷ left_in_parens op.Mul (tree.Bin op.Mul (read []) (read [])) ∷ right_in_parens op.Mul (tree.Bin op.Mul (read []) (read []))
+    ∷ operand_in_parens (tree.Bin op.Mul (read []) (read [])) ∷ operand_in_parens (tree.Neg (read [])) ∷ operand_in_parens (read []) ∷ []
+    ≡ true ∷ false ∷ true ∷ true ∷ true ∷ true ∷ false ∷ true ∷ true ∷ false ∷ false ∷ []
+unfolding level op_level
+in_parens = refl
 
 -- ---- the plan of the rover's three rules
 abbrev count : List ℕ

@@ -1,6 +1,7 @@
 //! Each call that may want memory, once with ample memory, and its answer.
 
 ghost use Rattle.std.specs.Prelude.{◌≡◌, ◌<◌, [], length, None, IfOk};
+ghost use Rattle.nf_core.specs.Trees.{tree, IsWithinLimits};
 ghost use Rattle.nf_core.specs.Example.{example_rules, example_levels, atom_of};
 ghost use Rattle.nf_core.specs.declared.trees.Rule.{Rule};
 
@@ -82,7 +83,10 @@ fn lists_and_sets(rt: HostRuntime) -> Result<(), Fail> {
     Ok(())
 }
 
-fn expression(alloc: Global) -> Result<Expr, NoMemory> {
+#[tactic(auto, using(crate::proofs::Limits::sum_within_limits))]
+fn expression(alloc: Global) -> Result<Expr, NoMemory>
+    ensures { IfOk result (λ x. IsWithinLimits (tree x)) }
+{
     let key = Expr::Key(Text::new(alloc, "a")?, Text::new(alloc, "k")?);
     let start = Expr::Neg(Boxed::new(alloc, Expr::Start(Text::new(alloc, "a")?))?);
     Ok(Expr::Bin(
@@ -110,22 +114,28 @@ fn atom(alloc: Global, name: &str) -> Result<Atom, NoMemory>
     })
 }
 
-#[test]
-fn copies_of_trees(rt: HostRuntime) -> Result<(), Fail> {
-    let alloc = rt.alloc();
+/// A rule with each clause.
+#[tactic(auto, using(crate::proofs::Limits::clauses_within_limits))]
+fn rule_with_clauses(alloc: Global) -> Result<Rule, NoMemory> {
     let mut entries = EntryList::new(alloc);
     entries.push(Entry {
         key: Text::new(alloc, "k")?,
         value: Expr::Bool(true),
     })?;
-    let rule = Rule {
+    Ok(Rule {
         head: Text::new(alloc, "w")?,
         body: Body::Pair(atom(alloc, "a")?, Op::Before, atom(alloc, "b")?),
         filter: Some(expression(alloc)?),
         entries,
-        start: Some(Expr::Int(1)),
-        stop: None,
-    };
+        start: Some(Expr::Start(Text::new(alloc, "a")?)),
+        stop: Some(Expr::Stop(Text::new(alloc, "b")?)),
+    })
+}
+
+#[test]
+fn copies_of_trees(rt: HostRuntime) -> Result<(), Fail> {
+    let alloc = rt.alloc();
+    let rule = rule_with_clauses(alloc)?;
     assert_eq!(rt; shown(alloc, &rule.copy(alloc)?)?, shown(alloc, &rule)?);
     let mut entries = PlanEntryList::new(alloc);
     entries.push(PlanEntry {

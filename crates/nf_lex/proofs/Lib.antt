@@ -9,3 +9,4 @@ pub mod OneAnswer
 pub mod Laying
 pub mod Existence
 pub mod Printed
+pub mod Spelled

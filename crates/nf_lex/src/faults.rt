@@ -13,8 +13,8 @@ use crate::token::TokenKind;
 use nf_text::is_plain;
 use std::str;
 
-/// The line of a place of the source, counted from 1.
-pub(crate) fn line_at(source: &[u8], place: usize) -> u64
+/// The line of a place of the source: 1 and the LF bytes before it. Places are counted from 0.
+pub fn line_at(source: &[u8], place: usize) -> u64
     requires { place ≤ length source.now }
     ensures { result ≡ line_at source.now place }
 {

@@ -1,12 +1,17 @@
 //! Laws of the definitions. Each function does nothing, and its contract is the law.
 
-ghost use Rattle.std.specs.Prelude.{◌≡◌, ◌==◌, ℕ, List, ◌∷◌, ◌++◌, length, take, slice_index, true, false};
+ghost use Rattle.std.specs.Prelude.{◌≡◌, ◌==◌, ◌↔◌, ℕ, List, [], ◌∷◌, ◌++◌, length, take, slice_index, true, false, Some, None, IsTrue};
+ghost use Rattle.nf_core.specs.Identifiers.{is_identifier};
+ghost use Rattle.nf_core.specs.Trees.{IsWrittenText};
 ghost use Rattle.std.specs.Char.{is_ascii_digit};
 ghost use Rattle.std.specs.List.{list_any};
 ghost use Rattle.nf_lex.specs.declared.token.TokenKind.TheVariants as kind;
 ghost use Rattle.nf_lex.specs.Bytes.{is_blank, is_inner};
-ghost use Rattle.nf_lex.specs.Words.{is_name, is_number, is_text, is_among, name_kind, long_marks, short_marks, opens_line, opens_block, Gap, Token, IsWord};
+ghost use Rattle.nf_lex.specs.Words.{kind_of, is_name, is_number, is_text, is_among, name_kind, long_marks, short_marks, opens_line, opens_block, Gap, Token, IsWord};
+ghost use Rattle.nf_lex.specs.Faults.{body_of, fault_of};
 ghost use Rattle.nf_lex.specs.Division.{Answer, Divides};
+
+use nf_text::plain_texts;
 
 /// Every source has exactly one answer: its tokens, or its first fault.
 pub fn division_is_one()
@@ -29,3 +34,16 @@ pub fn words_are_read()
         → IsWord (mark ∷ rest) (Token kind.Mark) 1 }
     ensures blank { (blank : ℕ) (rest : List ℕ) → is_blank blank ≡ true → IsWord (blank ∷ rest) Gap 1 }
 {}
+
+/// What the kind of a token says of its text: a word is an identifier's exactly where it is an
+/// identifier; what stands between the `"` of a text without fault can be written there; and a text
+/// that can be written is read between `"`, without fault.
+pub fn tokens_are_written()
+    ensures identifier { (word : List ℕ) → (kind_of word ≡ Some kind.Ident) ↔ IsTrue (is_identifier word) }
+    ensures text { (word : List ℕ) (line : ℕ) → kind_of word ≡ Some kind.Text → fault_of kind.Text word line ≡ None → IsWrittenText (body_of word) }
+    ensures quoted { (text : List ℕ) → IsWrittenText text → kind_of (34 ∷ text ++ 34 ∷ []) ≡ Some kind.Text }
+    ensures sound { (text : List ℕ) (line : ℕ) → IsWrittenText text → fault_of kind.Text (34 ∷ text ++ 34 ∷ []) line ≡ None }
+    ensures body { (text : List ℕ) → body_of (34 ∷ text ++ 34 ∷ []) ≡ text }
+{
+    plain_texts();
+}

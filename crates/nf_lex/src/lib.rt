@@ -19,7 +19,8 @@ mod token_list;
 mod words;
 
 pub use fault::LexFault;
-pub use laws::{division_is_one, words_are_read};
+pub use faults::line_at;
+pub use laws::{division_is_one, tokens_are_written, words_are_read};
 pub use reader::tokens;
 pub use token::{Token, TokenKind};
 pub use token_list::Tokens;

@@ -46,6 +46,13 @@ impl Tokens {
         self.items.get(place)
     }
 
+    /// The tokens, as borrowed.
+    pub fn as_slice(&self) -> &[Token]
+        ensures { result.now ≡ self.now }
+    {
+        self.items.as_slice()
+    }
+
     /// Appends a token. Where no memory is left the list stays as it was.
     pub fn push(&mut self, item: Token) -> Result<(), NoMemory>
         ensures ok { OnOk result (self.new ≡ self.old ++ item ∷ []) }

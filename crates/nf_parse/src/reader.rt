@@ -1,22 +1,168 @@
-//! The reader of specifications.
+//! The reader of tokens.
 
-ghost use Rattle.std.specs.Prelude.{◌≡◌, ◌⊎◌, ◌≤◌, All, Err, IfOk, length, flat_map};
-ghost use Rattle.nf_core.specs.declared.trees.Module.{Module};
-ghost use Rattle.nf_parse.specs.declared.fault.ParseFault.TheVariants as fault;
-ghost use Rattle.nf_core.specs.Trees.{IsWritten};
-ghost use Rattle.nf_parse.specs.Parses.{Parses};
+ghost use Rattle.std.specs.Prelude.{◌≡◌, ◌+◌, ◌≤◌, ◌<◌, length, IfOk, IfErr, OnOk, Ok, Some, All};
+ghost use Rattle.nf_parse.specs.declared.symbol.Sym.{Sym};
+ghost use Rattle.nf_lex.specs.Layout.{IsTokenOf};
+ghost use Rattle.nf_parse.specs.declared.fault.Halt.TheVariants as halt;
+ghost use Rattle.nf_parse.specs.declared.fault.Fault.TheVariants as fault;
+ghost use Rattle.nf_parse.specs.State.{state, words_of, next, Word};
+ghost use Rattle.nf_parse.specs.Parsers as spec;
 
-use crate::fault::ParseFault;
-use nf_core::ModuleList;
-use std::alloc::Global;
+use crate::fault::{Fault, Halt};
+use crate::symbol::Sym;
+use crate::symbols::first_sym;
+use nf_lex::Token;
+use nf_text::slice;
+use std::marker::Model;
 
-/// The modules of a source, or why it has none.
-pub fn parse(alloc: Global, source: &[u8]) -> Result<ModuleList, ParseFault>
-    ensures parses { (result ≡ Err fault.NoMemory) ⊎ Parses source.now result }
-    ensures few { IfOk result (λ modules. length (flat_map (λ (m : Module). m.rules) modules) ≤ length source.now) }
-    ensures written { IfOk result (λ modules. All IsWritten (flat_map (λ (m : Module). m.rules) modules)) }
-{
-    let _none = ModuleList::new(alloc);
-    let _bytes = source.len();
-    Err(ParseFault::NoMemory)
+/// Where a reading of tokens stands: the tokens of the source that are left, what the next one is, and
+/// how many operators the expression there may still have. Contracts see the words that are left and
+/// that number.
+#[derive(Drop)]
+pub(crate) struct Reader<'a> {
+    source: &'a [u8],
+    tokens: &'a [Token],
+    ahead: Option<Sym>,
+    operators: usize,
+}
+
+impl<'a> Model for Reader<'a> {
+    ghost use Rattle.std.specs.Prelude.{◌≡◌, All};
+    ghost use Rattle.nf_lex.specs.Layout.{IsTokenOf};
+    ghost use Rattle.nf_parse.specs.State.{State, state, words_of, next_of};
+
+    ghost Value = { State };
+
+    ghost view = { λ r. state r.operators (words_of r.source.now r.tokens.now) };
+
+    ghost invariant = { λ r. All (IsTokenOf r.source.now) r.tokens.now × (r.ahead ≡ next_of (words_of r.source.now r.tokens.now)) };
+}
+
+impl<'a> Reader<'a> {
+    /// A reader before tokens of the source, which may read so many operators in an expression.
+    pub(crate) fn new(source: &'a [u8], tokens: &'a [Token], operators: usize) -> Reader<'a>
+        requires { All (IsTokenOf source.now) tokens.now }
+        ensures { result ≡ state operators (words_of source.now tokens.now) }
+    {
+        Reader {
+            source,
+            tokens,
+            ahead: first_sym(source, tokens),
+            operators,
+        }
+    }
+
+    /// What the next word is.
+    pub(crate) fn next(&self) -> Option<Sym>
+        ensures { result ≡ next self.now }
+    {
+        self.ahead
+    }
+
+    /// Whether the next word is of this kind.
+    pub(crate) fn is_at(&self, kind: Sym) -> bool
+        ensures { result ≡ spec.is_at kind self.now }
+    {
+        match self.ahead {
+            Some(found) => found == kind,
+            None => false,
+        }
+    }
+
+    /// How many operators may still be read.
+    pub(crate) fn operators(&self) -> usize
+        ensures { result ≡ self.now.operators }
+    {
+        self.operators
+    }
+
+    /// Lets so many operators be read from here on.
+    pub(crate) fn allow(&mut self, operators: usize)
+        ensures { self.new ≡ state operators self.old.words }
+    {
+        self.operators = operators;
+    }
+
+    /// The fault of a next word that doesn't fit.
+    pub(crate) fn refuse(&self) -> Halt
+        ensures { result ≡ halt.At (fault.Grammar (length self.now.words)) }
+    {
+        Halt::At(Fault::Grammar(self.tokens.len()))
+    }
+
+    /// The fault of a next word that passes a limit.
+    pub(crate) fn too_deep(&self) -> Halt
+        ensures { result ≡ halt.At (fault.TooDeep (length self.now.words)) }
+    {
+        Halt::At(Fault::TooDeep(self.tokens.len()))
+    }
+
+    /// The bytes of the next word, behind which the reader then stands; there has to be one.
+    pub(crate) fn advance(&mut self) -> &'a [u8]
+        requires { 0 < length self.old.words }
+        ensures bytes { result.now ≡ spec.bytes_of self.old.words }
+        ensures behind { self.new ≡ spec.behind self.old }
+        ensures sound { (k : Sym) → next self.old ≡ Some k → spec.IsSound k result.now }
+    {
+        match self.tokens {
+            [] => unreachable!(),
+            [first, rest @ ..] => {
+                self.tokens = rest;
+                self.ahead = first_sym(self.source, rest);
+                slice(self.source, first.span)
+            }
+        }
+    }
+
+    /// The bytes of the next word, which has to be of this kind. Otherwise nothing is read.
+    #[tactic(auto, using(crate::proofs::Steps::token_read, crate::proofs::Steps::token_refused))]
+    pub(crate) fn take(&mut self, kind: Sym) -> Result<&'a [u8], Halt>
+        ensures reads { IfOk result (λ bytes. spec.token kind self.old ≡ Ok (bytes.now, self.new)) }
+        ensures stops { IfErr result (spec.Stops (spec.token kind self.old)) }
+        ensures sound { IfOk result (λ bytes. spec.IsSound kind bytes.now) }
+        ensures within { spec.IsWithin self.old self.new }
+        ensures shorter { IfOk result (λ _. length self.new.words < length self.old.words) }
+    {
+        if self.is_at(kind) {
+            Ok(self.advance())
+        } else {
+            Err(self.refuse())
+        }
+    }
+
+    /// Goes past the next word, which has to be of this kind. Otherwise nothing is read.
+    #[tactic(auto, using(crate::proofs::Steps::token_read, crate::proofs::Steps::token_refused))]
+    pub(crate) fn skip(&mut self, kind: Sym) -> Result<(), Halt>
+        ensures reads { OnOk result (spec.token kind self.old ≡ Ok (spec.bytes_of self.old.words, self.new)) }
+        ensures stops { IfErr result (spec.Stops (spec.token kind self.old)) }
+        ensures within { spec.IsWithin self.old self.new }
+        ensures shorter { OnOk result (length self.new.words < length self.old.words) }
+    {
+        if self.is_at(kind) {
+            self.advance();
+            Ok(())
+        } else {
+            Err(self.refuse())
+        }
+    }
+
+    /// Goes past the next word as an operator. Where no more may be read, nothing is.
+    #[tactic(auto, using(crate::proofs::Steps::operator_read, crate::proofs::Steps::operator_full, crate::proofs::Steps::operator_refused))]
+    pub(crate) fn operator(&mut self) -> Result<(), Halt>
+        ensures reads { OnOk result (spec.operator self.old ≡ Ok (spec.bytes_of self.old.words, self.new)) }
+        ensures stops { IfErr result (spec.Stops (spec.operator self.old)) }
+        ensures within { spec.IsWithin self.old self.new }
+        ensures shorter { OnOk result (length self.new.words < length self.old.words) }
+        ensures fewer { OnOk result (self.old.operators ≡ 1 + self.new.operators) }
+    {
+        let Some(_) = self.ahead else {
+            return Err(self.refuse());
+        };
+        if self.operators == 0 {
+            return Err(self.too_deep());
+        }
+        self.operators -= 1;
+        self.advance();
+        Ok(())
+    }
 }

@@ -1,3 +1,4 @@
 pub mod Cutting
 pub mod Numerals
 pub mod Spellings
+pub mod Plain

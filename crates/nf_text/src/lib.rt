@@ -18,7 +18,9 @@ mod value;
 
 pub use cursor::Cursor;
 pub use field_list::Split;
-pub use laws::{printed_numbers_are_read, printed_times_are_read, spellings_are_apart};
+pub use laws::{
+    plain_texts, printed_numbers_are_read, printed_times_are_read, spellings_are_apart,
+};
 pub use reading::{is_plain, read_value};
 pub use span::{Span, slice};
 pub use splitting::split;

@@ -1,18 +1,21 @@
 //! Reading a value.
 
-ghost use Rattle.std.specs.Prelude.{◌≡◌};
+ghost use Rattle.std.specs.Prelude.{◌≡◌, ◌↔◌, IsTrue, true, All};
 ghost use Rattle.std.specs.List.{list_any};
-ghost use Rattle.nf_text.specs.Value.{spelling, spelling_of, is_positive, is_numeral, whole_of, is_plain, is_separator};
+ghost use Rattle.nf_core.specs.Texts.{IsPlainByte, IsPlain};
+ghost use Rattle.nf_text.specs.Value.{is_words, spelling, spelling_of, is_positive, is_numeral, whole_of, is_plain, is_separator};
 
 use crate::digits::is_digits;
 use crate::value::Read;
 
 /// The value that `text` spells: a truth value where it is `true` or `false`, a whole number where it
 /// is `0` or an optional `-` and digits without a leading zero, within i64, else the text itself.
-/// The rule is `spelling_of` in specs/Value.antt.
+/// The rule is `spelling_of` in specs/Value.antt. Where it is the text itself, and no byte of it is `|`,
+/// `;`, CR or LF, it is plain (`IsPlain` of nf_core's specs/Texts).
 #[tactic(auto, unfolding(crate::specs::Value::spelling_of))]
 pub fn read_value<'a>(text: &'a str) -> Read<'a>
-    ensures { spelling result ≡ spelling_of text.now }
+    ensures spelling { spelling result ≡ spelling_of text.now }
+    ensures plain { All IsPlainByte text.now → is_words (spelling result) ≡ true → IsPlain text.now }
 {
     match text {
         "true" => Read::Bool(true),
@@ -25,10 +28,11 @@ pub fn read_value<'a>(text: &'a str) -> Read<'a>
 }
 
 /// Whether `text` is plain: it holds no `|`, `;`, CR or LF, and `read_value` reads it as a text. The
-/// rule is `is_plain` in specs/Value.antt.
+/// rule is `is_plain` in specs/Value.antt, and `IsPlain` of nf_core's specs/Texts says the same.
 #[tactic(auto, unfolding(crate::specs::Value::is_plain))]
 pub fn is_plain(text: &str) -> bool
-    ensures { result ≡ is_plain text.now }
+    ensures value { result ≡ is_plain text.now }
+    ensures plain { IsTrue result ↔ IsPlain text.now }
 {
     match read_value(text) {
         Read::Text(_) => !has_separator(text.as_bytes()),

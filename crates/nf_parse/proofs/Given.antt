@@ -1,0 +1,134 @@
+-- What the modules of a source are, and what its answer says.
+use Rattle.std.proofs.Common.{◌≡◌, ◌≢◌, ◌≤◌, ◌<◌, ◌^◌, ◌-◌, ◌⊎◌, ◌↔◌, ◌≤ℤ◌, inl, inr, ℕ, pos, List, length, refl, sym, ap, subst, arith, ⊎_elim, Some, None, Result, Ok, Err, IfOk, IsTrue}
+use Rattle.std.proofs.lemmas.List.{length-map}
+use Rattle.std.specs.Prelude.{flat_map}
+use Rattle.std.specs.List.{All}
+use Rattle.std.specs.Str.Parse.{digits_value}
+use Rattle.std.proofs.Math.Dec.{le→leb}
+use Rattle.std.proofs.lemmas.List.Elements.{All-map, All-weaker}
+use Rattle.nf_core.specs.Texts.{int_greatest}
+use Rattle.nf_core.specs.Identifiers.{is_identifier}
+use Rattle.nf_core.specs.Trees.{IsWritten, IsWrittenText}
+use Rattle.nf_core.specs.declared.trees.Module.{Module}
+use Rattle.nf_lex.specs.declared.token.Token.{Token}
+use Rattle.nf_lex.specs.declared.token.TokenKind.TheVariants as tokens
+use Rattle.nf_lex.specs.declared.fault.LexFault.{LexFault}
+use Rattle.nf_lex.specs.declared.fault.LexFault.TheVariants as lex
+use Rattle.nf_lex.specs.Words.{kind_of}
+use Rattle.nf_lex.specs.Faults.{fault_of, body_of}
+use Rattle.nf_lex.specs.Division.{Divides}
+use Rattle.nf_lex.specs.Layout.{IsTokenOf, AreLaidOut, end, next}
+use Rattle.nf_parse.specs.declared.fault.Halt.{Halt}
+use Rattle.nf_parse.specs.declared.fault.Halt.TheVariants as halt
+use Rattle.nf_parse.specs.declared.fault.Fault.{Fault}
+use Rattle.nf_parse.specs.declared.fault.ParseFault.{ParseFault}
+use Rattle.nf_parse.specs.declared.fault.ParseFault.TheVariants as fault
+use Rattle.nf_parse.specs.State.{Word, State, state, words_of, word_of}
+use Rattle.nf_parse.specs.Answers.{most_open, most_operators, Spells}
+use Rattle.nf_parse.specs.Parses as parses
+use Rattle.nf_parse.specs.Parses.{Parses, settled}
+use Rattle.nf_parse.specs.Parsers.{Reads, IsSound}
+use Rattle.nf_parse.specs.RuleReading.{file, limited}
+use Rattle.nf_parse.specs.FileReading.{outcome_of, Answers}
+use Rattle.nf_parse.proofs.Bytes.{number_small, text_kind, ident_kind}
+use Rattle.nf_parse.proofs.ExpressionRead.{IsWord}
+use Rattle.nf_parse.proofs.Limits.{IsByParts}
+use Rattle.nf_parse.proofs.Files.{file_written}
+use Rattle.nf_parse.proofs.RuleCounts.{file_rules}
+use Rattle.nf_parse.specs.Lexical.{of_lexical}
+use Rattle.nf_parse.proofs.Answered.{IsOneDivision, alike, no_memory}
+
+-- what a call of the reader read is the outcome of the tokens
+module _ (source : List ℕ) (found : List Token) (s new : State) (at : s ≡ state most_operators (words_of source found)) (r : Result (List Module) Halt) (reads : Reads (file limited s) r new) where
+  pub read_ok : (modules : List Module) → r ≡ Ok modules → outcome_of source found ≡ Ok (modules, new)
+  unfolding outcome_of
+  read_ok modules e = subst (λ z. file limited z ≡ Ok (modules, new)) at (subst (λ q. Reads (file limited s) q new) e reads)
+
+  pub read_err : (f : Fault) → r ≡ Err (halt.At f) → outcome_of source found ≡ Err f
+  unfolding outcome_of
+  read_err f e = subst (λ z. file limited z ≡ Err f) at (subst (λ q. Reads (file limited s) q new) e reads)
+
+-- a source has at least as many bytes as tokens
+few_tokens : (source : List ℕ) (place : ℕ) (found : List Token) → AreLaidOut source place found → length found ≤ length source - place
+few_tokens source place _ (end g) = omega arith
+few_tokens source place _ (next {token} {tokens = found} a b c g k l) = let h = few_tokens source token.span.stop found l in omega arith
+
+-- the words of tokens are sound
+abbrev Sound : Word → Type 0
+Sound word = IsSound word.0 word.1
+
+token_sound : (source : List ℕ) (token : Token) → IsTokenOf source token → Sound (word_of source token)
+token_sound source token t = record { kind = token.kind; is = refl; form = t.kind; sound = t.sound }
+
+words_sound : (source : List ℕ) (found : List Token) → All (IsTokenOf source) found → All Sound (words_of source found)
+words_sound source found h = All-map Sound (word_of source) found (All-weaker (IsTokenOf source) (λ token. Sound (word_of source token)) (token_sound source) found h)
+
+-- what nf_lex says of tokens
+pub record IsWrittenToken : Type 0 where
+  pub identifier : (word : List ℕ) → (kind_of word ≡ Some tokens.Ident) ↔ IsTrue (is_identifier word)
+  pub text : (word : List ℕ) (line : ℕ) → kind_of word ≡ Some tokens.Text → fault_of tokens.Text word line ≡ None → IsWrittenText (body_of word)
+
+small : (n : ℕ) → n < 2 ^ 63 → pos n ≤ℤ int_greatest
+small n h = omega (arith, le→leb)
+
+word_of_expression : IsWrittenToken → IsWord Sound
+word_of_expression w = record {
+  name = λ bytes s. (w.identifier bytes).0 (subst (λ k. kind_of bytes ≡ Some k) (ident_kind s.kind bytes s.is) s.form);
+  text = λ bytes s. w.text bytes 0 (subst (λ k. kind_of bytes ≡ Some k) (text_kind s.kind bytes s.is) s.form) (subst (λ k. fault_of k bytes 0 ≡ None) (text_kind s.kind bytes s.is) (s.sound 0));
+  number = λ bytes s. small (digits_value 10 bytes) (number_small bytes s);
+}
+
+module _ (parts : IsByParts) (w : IsWrittenToken) (source : List ℕ) (found : List Token) (each : All (IsTokenOf source) found) where
+  pub given_written : (result : Result (List Module) ParseFault) → Answers source found result → IfOk result (λ modules. All IsWritten (flat_map (λ (m : Module). m.rules) modules))
+  unfolding outcome_of limited
+  given_written (Ok modules) a = file_written parts Sound (word_of_expression w) most_open (state most_operators (words_of source found)) a.0 modules a.1 (words_sound source found each)
+  given_written (Err f) a = tt
+
+module _ (source : List ℕ) (found : List Token) (laid : AreLaidOut source 0 found) where
+  pub given_few : (result : Result (List Module) ParseFault) → Answers source found result → IfOk result (λ modules. length (flat_map (λ (m : Module). m.rules) modules) ≤ length source)
+  unfolding outcome_of limited
+  given_few (Ok modules) a =
+      let r = file_rules most_open (state most_operators (words_of source found)) a.0 modules a.1 in
+      omega (arith, few_tokens source 0 found laid, length-map found (word_of source), r)
+  given_few (Err f) a = tt
+
+-- what an answer says
+settled_ok : (r : Result (List Module) ParseFault) (modules : List Module) → Ok modules ≡ settled r → r ≡ Ok modules
+settled_ok (Ok m) modules e = sym e
+settled_ok (Err (fault.Lex f)) modules e = cc
+settled_ok (Err (fault.Grammar line)) modules e = cc
+settled_ok (Err (fault.TooDeep line)) modules e = cc
+settled_ok (Err fault.NoMemory) modules e = cc
+
+module _ (one : IsOneDivision) (source : List ℕ) (result : Result (List Module) ParseFault) (answer : (result ≡ Err fault.NoMemory) ⊎ Parses source result) where
+  pub only_given : (modules : List Module) → Spells source modules → (result ≡ Ok modules) ⊎ (result ≡ Err fault.NoMemory)
+  only_given modules v = ⊎_elim inr (λ p. inl (settled_ok result modules (alike one source (Ok modules) result (parses.modules v) p))) answer
+
+lexical_divides : (source : List ℕ) (r : Result (List Module) ParseFault) (f : LexFault) → Parses source r → r ≡ Err (fault.Lex f) → Divides source 0 (Err f)
+lexical_divides source _ f (parses.modules v) e = absurd (cc)
+lexical_divides source _ f (parses.lexical {first = g} d) e = let h : g ≡ f = cc in subst (λ (g : LexFault). Divides source 0 (Err g)) h d
+lexical_divides source _ f (parses.grammar v) e = absurd (cc)
+lexical_divides source _ f (parses.too_deep v) e = absurd (cc)
+
+no_free : (r : Result (List Module) ParseFault) (f : LexFault) → r ≡ Err fault.NoMemory → r ≡ Err (fault.Lex f) → ⊥
+no_free r f a b = cc
+
+pub lexical_given : (source : List ℕ) (result : Result (List Module) ParseFault) → (result ≡ Err fault.NoMemory) ⊎ Parses source result → (f : LexFault) → result ≡ Err (fault.Lex f) → Divides source 0 (Err f) × (f ≢ lex.NoMemory)
+lexical_given source result answer f e =
+    let d = ⊎_elim (λ n. absurd (no_free result f n e)) (λ p. lexical_divides source result f p e) answer in
+    (d, λ i. no_memory source 0 (Err f) d (ap Err i))
+
+-- the answer of a lexical fault
+abbrev answer_err : ParseFault → Result (List Module) ParseFault
+answer_err f = Err f
+
+lexical_kept : (source : List ℕ) (f : LexFault) → Divides source 0 (Err f) → (answer_err (of_lexical f) ≡ answer_err fault.NoMemory) ⊎ Parses source (Err (of_lexical f))
+lexical_kept source lex.NoMemory d = inl refl
+lexical_kept source (lex.BadByte n) d = inr (parses.lexical d)
+lexical_kept source (lex.BadText n) d = inr (parses.lexical d)
+lexical_kept source (lex.OpenText n) d = inr (parses.lexical d)
+lexical_kept source (lex.OpenComment n) d = inr (parses.lexical d)
+lexical_kept source (lex.BigNumber n) d = inr (parses.lexical d)
+
+pub lexical_answer : (source : List ℕ) (f : LexFault) → (f ≡ lex.NoMemory) ⊎ Divides source 0 (Err f) → (answer_err (of_lexical f) ≡ answer_err fault.NoMemory) ⊎ Parses source (Err (of_lexical f))
+lexical_answer source f h = ⊎_elim (λ e. inl (ap (λ g. answer_err (of_lexical g)) e)) (lexical_kept source f) h

@@ -1,0 +1,40 @@
+-- Single steps of the reader of rules.
+use Rattle.std.proofs.Common.{◌≡◌, ℕ, ◌<◌, List, [], ◌∷◌, ◌++◌, length, arith, Option, Some, None, unwrap_or}
+use Rattle.std.specs.Prelude.{map, option_to_list, IfSome}
+use Rattle.std.specs.List.{All}
+use Rattle.std.proofs.lemmas.List.Elements.{All-nil, All-cons, All-append, All-map}
+use Rattle.nf_core.specs.Trees.{tree, IsWithinLimits, IsRule}
+use Rattle.nf_core.specs.declared.trees.Expr.{Expr}
+use Rattle.nf_core.specs.declared.trees.Body.{Body}
+use Rattle.nf_core.specs.declared.trees.Entry.{Entry}
+use Rattle.nf_parse.specs.declared.symbol.Sym.{Sym}
+use Rattle.nf_parse.specs.State.{Word, State, next, next_of}
+use Rattle.nf_parse.specs.Parsers.{in_table}
+
+pub table_words : {A : Type 0} (table : Sym → Option A) (s : State) (x : A) → in_table table (next s) ≡ Some x → 0 < length s.words
+table_words table s x e = go s.words e
+  where
+    go : (ws : List Word) → in_table table (next_of ws) ≡ Some x → 0 < length ws
+    go [] e = absurd (cc)
+    go (w ∷ ws) e = omega arith
+
+pub all_or_empty : {A : Type 0} (P : A → Type 0) (x : Option (List A)) → IfSome x (All P) → All P (unwrap_or x [])
+all_or_empty P None h = All-nil P
+all_or_empty P (Some xs) h = h
+
+abbrev IsLimited : Expr → Type 0
+IsLimited x = IsWithinLimits (tree x)
+
+some_limited : (x : Option Expr) → IfSome x IsLimited → All IsLimited (option_to_list x)
+some_limited None h = All-nil IsLimited
+some_limited (Some x) h = All-cons IsLimited x [] h (All-nil IsLimited)
+
+pub rule_limits : (head : List ℕ) (body : Body) (filter : Option Expr) (entries : Option (List Entry)) (start stop : Option Expr)
+    → IfSome filter (λ x. IsWithinLimits (tree x)) → IfSome entries (All (λ (entry : Entry). IsWithinLimits (tree entry.value))) → IfSome start (λ x. IsWithinLimits (tree x)) → IfSome stop (λ x. IsWithinLimits (tree x))
+    → IsRule (record { head = head; body = body; filter = filter; entries = unwrap_or entries []; start = start; stop = stop })
+rule_limits head body filter entries start stop f e s t =
+    let found = unwrap_or entries [] in
+    All-append IsLimited (option_to_list filter ++ map (λ (e : Entry). e.value) found ++ option_to_list start) (option_to_list stop)
+    (All-append IsLimited (option_to_list filter ++ map (λ (e : Entry). e.value) found) (option_to_list start)
+    (All-append IsLimited (option_to_list filter) (map (λ (e : Entry). e.value) found) (some_limited filter f)
+    (All-map IsLimited (λ (e : Entry). e.value) found (all_or_empty (λ (e : Entry). IsLimited e.value) entries e))) (some_limited start s)) (some_limited stop t)

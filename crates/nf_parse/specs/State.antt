@@ -1,0 +1,66 @@
+-- The words of a source, and where a reading stands among them.
+use Rattle.std.specs.Prelude.{ℕ, List, [], ◌∷◌, map, codes, bytes_eq, unwrap_or, Option, Some, None}
+use Rattle.std.specs.Map.{lookup}
+use Rattle.nf_lex.specs.declared.token.Token.{Token}
+use Rattle.nf_lex.specs.declared.token.TokenKind.{TokenKind}
+use Rattle.nf_lex.specs.declared.token.TokenKind.TheVariants as kind
+use Rattle.nf_lex.specs.Layout.{text_of}
+use Rattle.nf_parse.specs.declared.symbol.Sym.{Sym}
+use Rattle.nf_parse.specs.declared.symbol.Sym.TheVariants as sym
+
+-- the keywords
+abbrev pub keywords : List (List ℕ × Sym)
+keywords =
+    (codes "module", sym.Module) ∷ (codes "import", sym.Import) ∷ (codes "where", sym.Where) ∷ (codes "map", sym.Map) ∷ (codes "begin", sym.Begin) ∷ (codes "end", sym.End)
+    ∷ (codes "unless", sym.Unless) ∷ (codes "before", sym.Before) ∷ (codes "meet", sym.Meet) ∷ (codes "during", sym.During) ∷ (codes "coincide", sym.Coincide)
+    ∷ (codes "start", sym.Start) ∷ (codes "finish", sym.Finish) ∷ (codes "overlap", sym.Overlap) ∷ (codes "slice", sym.Slice)
+    ∷ (codes "after", sym.After) ∷ (codes "follow", sym.Follow) ∷ (codes "contain", sym.Contain) ∷ (codes "true", sym.True) ∷ (codes "false", sym.False) ∷ []
+
+-- the marks
+abbrev pub marks : List (List ℕ × Sym)
+marks =
+    (codes ":-", sym.Defines) ∷ (codes "->", sym.Arrow) ∷ (codes "<=", sym.LessEqual) ∷ (codes ">=", sym.GreaterEqual) ∷ (codes "!=", sym.NotEqual)
+    ∷ (codes "=", sym.Equal) ∷ (codes "<", sym.Less) ∷ (codes ">", sym.Greater) ∷ (codes "!", sym.Bang) ∷ (codes "&", sym.And) ∷ (codes "|", sym.Or)
+    ∷ (codes "+", sym.Plus) ∷ (codes "-", sym.Minus) ∷ (codes "*", sym.Star) ∷ (codes "/", sym.Slash) ∷ (codes "%", sym.Percent)
+    ∷ (codes "(", sym.Open) ∷ (codes ")", sym.Close) ∷ (codes "{", sym.OpenBrace) ∷ (codes "}", sym.CloseBrace)
+    ∷ (codes ",", sym.Comma) ∷ (codes ";", sym.Semicolon) ∷ (codes ".", sym.Dot) ∷ (codes ":", sym.Colon) ∷ []
+
+-- what bytes are in a table of words; no keyword and no mark is missing there
+abbrev pub sym_in : List (List ℕ × Sym) → List ℕ → Sym
+sym_in table bytes = unwrap_or (lookup (bytes_eq bytes) table) sym.Other
+
+-- what a token is to the grammar: an identifier, a number or a text whatever its bytes are, and each keyword and each mark by itself
+unfoldable pub sym_of : TokenKind → List ℕ → Sym
+sym_of kind.Ident bytes = sym.Ident
+sym_of kind.Number bytes = sym.Number
+sym_of kind.Text bytes = sym.Text
+sym_of kind.Keyword bytes = sym_in keywords bytes
+sym_of kind.Mark bytes = sym_in marks bytes
+
+-- a word: what a token is, and its bytes
+abbrev pub Word : Type 0
+Word = Sym × List ℕ
+
+-- the word of a token of a source
+abbrev pub word_of : List ℕ → Token → Word
+word_of source token = (sym_of token.kind (text_of source token), text_of source token)
+
+-- the words of the tokens of a source
+abbrev pub words_of : List ℕ → List Token → List Word
+words_of source tokens = map (word_of source) tokens
+
+-- where a reading stands: the words that are left, and how many operators may still stand in the expression there
+pub record State : Type 0 where
+  pub operators : ℕ
+  pub words : List Word
+
+abbrev pub state : ℕ → List Word → State
+state operators words = record { operators = operators; words = words }
+
+-- what the next word is, if there is one
+abbrev pub next_of : List Word → Option Sym
+next_of [] = None
+next_of (word ∷ words) = Some word.0
+
+abbrev pub next : State → Option Sym
+next s = next_of s.words

@@ -1,0 +1,171 @@
+//! The reader of the clauses of a rule.
+
+ghost use Rattle.std.specs.Prelude.{◌≡◌, ◌≤◌, ◌<◌, length, [], IfOk, OnOk, All, IfSome, unwrap_or};
+ghost use Rattle.nf_core.specs.Trees.{tree, IsWithinLimits};
+ghost use Rattle.nf_core.specs.declared.trees.Entry.{Entry};
+ghost use Rattle.nf_parse.specs.declared.symbol.Sym.TheVariants as sym;
+ghost use Rattle.nf_parse.specs.Answers.{most_operators};
+ghost use Rattle.nf_parse.specs.Parsers.{Reads, IsWithin, whole, after};
+ghost use Rattle.nf_parse.specs.Parts as parts;
+ghost use Rattle.nf_parse.specs.RuleReading as spec;
+
+use crate::expressions::expression;
+use crate::fault::Halt;
+use crate::literals::name_of;
+use crate::reader::Reader;
+use crate::symbol::Sym;
+use nf_core::{Entry, EntryList, Expr, ListOf, trees_by_parts};
+use std::alloc::Global;
+
+/// How many parentheses may be open at once in an expression.
+const MOST_OPEN: usize = 64;
+
+/// An expression by itself: what stands behind it may have as many operators.
+#[tactic(auto, unfolding(crate::specs::RuleReading::limited, crate::specs::Parsers::whole))]
+fn whole(alloc: Global, reader: &mut Reader<'_>) -> Result<Expr, Halt>
+    requires { reader.old.operators ≤ most_operators }
+    ensures reads { Reads (whole spec.limited reader.old) result reader.new }
+    ensures within { IsWithin reader.old reader.new }
+    ensures limits { IfOk result (λ x. IsWithinLimits (tree x)) }
+{
+    trees_by_parts();
+    let operators = reader.operators();
+    let x = expression(alloc, MOST_OPEN, reader)?;
+    reader.allow(operators);
+    Ok(x)
+}
+
+/// A keyword and its expression.
+#[tactic(auto, unfolding(crate::specs::RuleReading::clause))]
+pub(crate) fn clause(alloc: Global, word: Sym, reader: &mut Reader<'_>) -> Result<Expr, Halt>
+    requires { reader.old.operators ≤ most_operators }
+    ensures reads { Reads (spec.clause spec.limited word reader.old) result reader.new }
+    ensures within { IsWithin reader.old reader.new }
+    ensures shorter { OnOk result (length reader.new.words < length reader.old.words) }
+    ensures limits { IfOk result (λ x. IsWithinLimits (tree x)) }
+{
+    reader.skip(word)?;
+    whole(alloc, reader)
+}
+
+/// A keyword and its expression, where the keyword comes next.
+#[tactic(auto, unfolding(crate::specs::Parts::optional))]
+pub(crate) fn optional_clause(
+    alloc: Global,
+    word: Sym,
+    reader: &mut Reader<'_>,
+) -> Result<Option<Expr>, Halt>
+    requires { reader.old.operators ≤ most_operators }
+    ensures reads { Reads (parts.optional word (spec.clause spec.limited word) reader.old) result reader.new }
+    ensures within { IsWithin reader.old reader.new }
+    ensures limits { IfOk result (λ x. IfSome x (λ x. IsWithinLimits (tree x))) }
+{
+    if reader.is_at(word) {
+        Ok(Some(clause(alloc, word, reader)?))
+    } else {
+        Ok(None)
+    }
+}
+
+/// An entry of a map.
+#[tactic(auto, unfolding(crate::specs::RuleReading::entry))]
+fn entry(alloc: Global, reader: &mut Reader<'_>) -> Result<Entry, Halt>
+    requires { reader.old.operators ≤ most_operators }
+    ensures reads { Reads (spec.entry spec.limited reader.old) result reader.new }
+    ensures within { IsWithin reader.old reader.new }
+    ensures shorter { OnOk result (length reader.new.words < length reader.old.words) }
+    ensures limits { IfOk result (λ entry. IsWithinLimits (tree entry.value)) }
+{
+    let key = reader.take(Sym::Ident)?;
+    let key = name_of(alloc, key)?;
+    let value = clause(alloc, Sym::Arrow, reader)?;
+    Ok(Entry { key, value })
+}
+
+/// An entry of a map behind a comma.
+fn next_entry(alloc: Global, reader: &mut Reader<'_>) -> Result<Entry, Halt>
+    requires { reader.old.operators ≤ most_operators }
+    ensures reads { Reads (parts.next_part sym.Comma (spec.entry spec.limited) reader.old) result reader.new }
+    ensures within { IsWithin reader.old reader.new }
+    ensures shorter { OnOk result (length reader.new.words < length reader.old.words) }
+    ensures limits { IfOk result (λ entry. IsWithinLimits (tree entry.value)) }
+{
+    reader.skip(Sym::Comma)?;
+    entry(alloc, reader)
+}
+
+/// Entries of a map with commas between them.
+
+fn entry_list(alloc: Global, reader: &mut Reader<'_>) -> Result<EntryList, Halt>
+    requires { reader.old.operators ≤ most_operators }
+    ensures reads { Reads (parts.separated sym.Comma (spec.entry spec.limited) reader.old) result reader.new }
+    ensures within { IsWithin reader.old reader.new }
+    ensures limits { IfOk result (All (λ (entry : Entry). IsWithinLimits (tree entry.value))) }
+{
+    let first = entry(alloc, reader)?;
+    let mut entries = EntryList::new(alloc);
+    entries.push(first)?;
+    'entries: while reader.is_at(Sym::Comma) {
+        let entry = next_entry(alloc, reader)?;
+        entries.push(entry)?;
+    }
+    Ok(entries)
+}
+
+/// The entries of a map, between braces.
+#[tactic(auto, unfolding(crate::specs::Parts::optional))]
+fn inner_entries(alloc: Global, reader: &mut Reader<'_>) -> Result<Option<EntryList>, Halt>
+    requires { reader.old.operators ≤ most_operators }
+    ensures reads { Reads (parts.optional sym.Ident (parts.separated sym.Comma (spec.entry spec.limited)) reader.old) result reader.new }
+    ensures within { IsWithin reader.old reader.new }
+    ensures limits { IfOk result (λ entries. IfSome entries (All (λ (entry : Entry). IsWithinLimits (tree entry.value)))) }
+{
+    if reader.is_at(Sym::Ident) {
+        Ok(Some(entry_list(alloc, reader)?))
+    } else {
+        Ok(None)
+    }
+}
+
+/// A list, where there is one, else an empty one.
+pub(crate) fn or_empty<T: Drop>(alloc: Global, list: Option<ListOf<T>>) -> ListOf<T>
+    ensures { result ≡ unwrap_or list [] }
+{
+    match list {
+        Some(list) => list,
+        None => ListOf::new(alloc),
+    }
+}
+
+/// A map: its entries between braces.
+#[tactic(auto, using(crate::proofs::PartSteps::all_or_empty), unfolding(crate::specs::RuleReading::entries))]
+fn entries(alloc: Global, reader: &mut Reader<'_>) -> Result<EntryList, Halt>
+    requires { reader.old.operators ≤ most_operators }
+    ensures reads { Reads (spec.entries spec.limited reader.old) result reader.new }
+    ensures within { IsWithin reader.old reader.new }
+    ensures limits { IfOk result (All (λ (entry : Entry). IsWithinLimits (tree entry.value))) }
+{
+    reader.skip(Sym::Map)?;
+    reader.skip(Sym::OpenBrace)?;
+    let entries = inner_entries(alloc, reader)?;
+    reader.skip(Sym::CloseBrace)?;
+    Ok(or_empty(alloc, entries))
+}
+
+/// A map, where one comes next.
+#[tactic(auto, unfolding(crate::specs::Parts::optional))]
+pub(crate) fn optional_entries(
+    alloc: Global,
+    reader: &mut Reader<'_>,
+) -> Result<Option<EntryList>, Halt>
+    requires { reader.old.operators ≤ most_operators }
+    ensures reads { Reads (parts.optional sym.Map (spec.entries spec.limited) reader.old) result reader.new }
+    ensures within { IsWithin reader.old reader.new }
+    ensures limits { IfOk result (λ entries. IfSome entries (All (λ (entry : Entry). IsWithinLimits (tree entry.value)))) }
+{
+    if reader.is_at(Sym::Map) {
+        Ok(Some(entries(alloc, reader)?))
+    } else {
+        Ok(None)
+    }
+}

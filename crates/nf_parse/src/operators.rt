@@ -1,0 +1,32 @@
+//! The tables of operators.
+
+ghost use Rattle.std.specs.Prelude.{◌≡◌};
+ghost use Rattle.nf_parse.specs.Grammar.{op_at};
+ghost use Rattle.nf_parse.specs.Parsers.{in_table};
+
+use crate::level::Level;
+use crate::symbol::Sym;
+use nf_core::BinOp;
+
+/// The operator of a level that comes next, if one does.
+#[tactic(auto, unfolding(crate::specs::Grammar::op_at))]
+pub(crate) fn op_at(level: Level, next: Option<Sym>) -> Option<BinOp>
+    ensures { result ≡ in_table (op_at level) next }
+{
+    match (level, next?) {
+        (Level::Or, Sym::Or) => Some(BinOp::Or),
+        (Level::And, Sym::And) => Some(BinOp::And),
+        (Level::Compare, Sym::Equal) => Some(BinOp::Eq),
+        (Level::Compare, Sym::NotEqual) => Some(BinOp::Ne),
+        (Level::Compare, Sym::Less) => Some(BinOp::Lt),
+        (Level::Compare, Sym::LessEqual) => Some(BinOp::Le),
+        (Level::Compare, Sym::Greater) => Some(BinOp::Gt),
+        (Level::Compare, Sym::GreaterEqual) => Some(BinOp::Ge),
+        (Level::Sum, Sym::Plus) => Some(BinOp::Add),
+        (Level::Sum, Sym::Minus) => Some(BinOp::Sub),
+        (Level::Product, Sym::Star) => Some(BinOp::Mul),
+        (Level::Product, Sym::Slash) => Some(BinOp::Div),
+        (Level::Product, Sym::Percent) => Some(BinOp::Rem),
+        _ => None,
+    }
+}
