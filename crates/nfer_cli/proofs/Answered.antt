@@ -65,7 +65,7 @@ advances_then whole middle rest first before now a b = record {
 }
 
 -- a refused line ends as it says
-ended_as : (s : Status) (answer : Answer) (told : Option (List ℕ)) → answer ≡ refusal s → EndsFor s s → Wrote s told told [] → Ended s answer told told
+ended_as : (s : Status) (answer : Answer) (told : Option (List ℕ)) → answer ≡ refusal s → EndsFor 0 s s → Wrote s told told [] → Ended s answer told told
 ended_as s answer told is ends writes = subst (λ (a : Answer). Ended s a told told) (sym is) (record { ends = ends; writes = writes })
 
 pub ended_refused : (why : Refusal) (number : ℕ) (answer : Answer) (told : Option (List ℕ)) → answer ≡ refusal (status_of (Refused number why)) → Ended (status_of (Refused number why)) answer told told
@@ -77,29 +77,15 @@ refused_kind InNoForm number = tt
 refused_kind (Falls kept found) number = tt
 
 -- a call that failed while it wrote a piece of an answer
-stopped_ends_for : (s d : Status) (text : List ℕ) (before now : Option (List ℕ)) → Stopped s text before now → EndsFor s d
+stopped_ends_for : (s d : Status) (text : List ℕ) (before now : Option (List ℕ)) → Stopped s text before now → EndsFor 0 s d
 stopped_ends_for status.WriteFault d text before now h = tt
 stopped_ends_for status.NoMemory d text before now h = tt
-stopped_ends_for status.Done d text before now h = absurd h
-stopped_ends_for status.Usage d text before now h = absurd h
-stopped_ends_for status.SpecificationTooLong d text before now h = absurd h
-stopped_ends_for status.Unbuilt d text before now h = absurd h
-stopped_ends_for status.TraceUnbuilt d text before now h = absurd h
-stopped_ends_for (status.LineUnbuilt n) d text before now h = absurd h
-stopped_ends_for (status.Order n k f) d text before now h = absurd h
-stopped_ends_for (status.ReadFault n) d text before now h = absurd h
+stopped_ends_for other d text before now h = absurd h
 
 stopped_wrote : (s : Status) (text rest : List ℕ) (before now : Option (List ℕ)) → Stopped s text before now → Wrote s before now (text ++ rest)
 stopped_wrote status.WriteFault text rest before now h = TookPart-more before now text rest h
 stopped_wrote status.NoMemory text rest before now h = TookPrefix-more before now text rest h
-stopped_wrote status.Done text rest before now h = absurd h
-stopped_wrote status.Usage text rest before now h = absurd h
-stopped_wrote status.SpecificationTooLong text rest before now h = absurd h
-stopped_wrote status.Unbuilt text rest before now h = absurd h
-stopped_wrote status.TraceUnbuilt text rest before now h = absurd h
-stopped_wrote (status.LineUnbuilt n) text rest before now h = absurd h
-stopped_wrote (status.Order n k f) text rest before now h = absurd h
-stopped_wrote (status.ReadFault n) text rest before now h = absurd h
+stopped_wrote other text rest before now h = absurd h
 
 pub stopped_ends : (s : Status) (answer : Answer) (text rest : List ℕ) (d : Status) (before now : Option (List ℕ)) → Stopped s text before now → answer ≡ record { text = text ++ rest; status = d } → Ended s answer before now
 stopped_ends s answer text rest d before now stopped is =
@@ -108,31 +94,18 @@ stopped_ends s answer text rest d before now stopped is =
 pub stopped_kind : (s : Status) (text : List ℕ) (before now : Option (List ℕ)) → Stopped s text before now → IsFollowEnd s
 stopped_kind status.WriteFault text before now h = tt
 stopped_kind status.NoMemory text before now h = tt
-stopped_kind status.Done text before now h = absurd h
-stopped_kind status.Usage text before now h = absurd h
-stopped_kind status.SpecificationTooLong text before now h = absurd h
-stopped_kind status.Unbuilt text before now h = absurd h
-stopped_kind status.TraceUnbuilt text before now h = absurd h
-stopped_kind (status.LineUnbuilt n) text before now h = absurd h
-stopped_kind (status.Order n k f) text before now h = absurd h
-stopped_kind (status.ReadFault n) text before now h = absurd h
+stopped_kind other text before now h = absurd h
 
 -- a piece of an answer was written, and then the call ended in the rest of it
 wrote_after : (s : Status) (piece text : List ℕ) (first before now : Option (List ℕ)) → Took first before piece → Wrote s before now text → Wrote s first now (piece ++ text)
 wrote_after status.WriteFault piece text first before now a b = TookPart-after first before now piece text a b
 wrote_after status.NoMemory piece text first before now a b = subst (λ t. TookPrefix first now (piece ++ t)) (append-nil text) (TookPrefix-after first before now piece text [] a b)
 wrote_after (status.ReadFault n) piece text first before now a b = subst (λ t. TookPrefix first now (piece ++ t)) (append-nil text) (TookPrefix-after first before now piece text [] a b)
-wrote_after status.Done piece text first before now a b = Took-join first before now piece text a b
-wrote_after status.Usage piece text first before now a b = Took-join first before now piece text a b
-wrote_after status.SpecificationTooLong piece text first before now a b = Took-join first before now piece text a b
-wrote_after status.Unbuilt piece text first before now a b = Took-join first before now piece text a b
-wrote_after status.TraceUnbuilt piece text first before now a b = Took-join first before now piece text a b
-wrote_after (status.LineUnbuilt n) piece text first before now a b = Took-join first before now piece text a b
-wrote_after (status.Order n k f) piece text first before now a b = Took-join first before now piece text a b
+wrote_after other piece text first before now a b = Took-join first before now piece text a b
 
 pub ended_after : (s : Status) (whole middle : Answer) (first before now : Option (List ℕ)) → Advances whole middle first before → Ended s middle before now → Ended s whole first now
 ended_after s whole middle first before now a e = record {
-  ends = subst (λ (d : Status). EndsFor s d) (sym a.status) e.ends;
+  ends = subst (λ (d : Status). EndsFor 0 s d) (sym a.status) e.ends;
   writes = subst (λ (t : List ℕ). Wrote s first now t) (sym a.text) (wrote_after s a.piece middle.text first before now a.taken e.writes);
 }
 

@@ -1,18 +1,23 @@
 -- Every question has a defined answer.
-use Rattle.std.proofs.Common.{◌≡◌, ℕ, zero, suc, ◌+◌, ◌≤◌, max, Bool, true, false, cond, List, [], ◌∷◌, length, get_or, fold, flat_map, bytes_eq, refl, subst, arith, Option, Some, None, if◌then◌else◌}
-use Rattle.std.specs.Prelude.{nat_lt}
+use Rattle.std.proofs.Common.{◌≡◌, ℕ, zero, suc, ◌+◌, ◌<◌, ◌≤◌, max, true, cond, List, [], ◌∷◌, ◌++◌, length, take, get_or, fold, flat_map, bytes_eq, refl, subst, arith, Option, Some, None, Result, Ok, Err}
 use Rattle.std.proofs.lemmas.List.{take_all, get_or_default}
 use Rattle.nf_core.specs.Written.{Levels, names_in, plan_of, AreLevels}
 use Rattle.nf_core.specs.declared.trees.Rule.{Rule}
+use Rattle.nf_core.specs.declared.trees.Module.{Module}
 use Rattle.nf_io.specs.Files.{Files, bytes_of}
+use Rattle.nf_parse.specs.Parses.{Parses}
+use Rattle.nf_parse.specs.declared.fault.ParseFault.{ParseFault}
 use Rattle.nfer_cli.specs.Words.{Asked, Follow, trace_word}
-use Rattle.nfer_cli.specs.Specification.{specification_limit, rules_of, reads_earlier_heads}
+use Rattle.nfer_cli.specs.Sources.{specification_limit, sources_of, passing, AreParsed, none, more, refused, later}
+use Rattle.nfer_cli.specs.Specification.{rules_of, reads_earlier_heads}
 use Rattle.nfer_cli.specs.RuleLevels.{level_over, with_level, AreFound}
-use Rattle.nfer_cli.specs.Answers.{Answer, Specified, TooLong, NoForm, Rules, refusal, followed, specified, in_form, FollowDefines, Defines}
+use Rattle.nfer_cli.specs.Answers as answers
+use Rattle.nfer_cli.specs.Answers.{Answer, refusal, refused_at, followed, FollowDefines, too_long, unbuilt, planned, Defines}
 use Rattle.nfer_cli.specs.declared.status.Status.TheVariants as status
 use Rattle.nfer_cli.proofs.RuleLevels.{read_by, AreSoFar, none_found, more_found}
 use Rattle.nfer_cli.proofs.NameLevels.{are_levels}
-use Rattle.nfer_cli.proofs.Spelled.{are_read}
+use Rattle.nfer_cli.proofs.Built.{are_built}
+use Rattle.nfer_cli.proofs.Passing.{passing_not_in}
 
 -- levels with that of a rule's head raised over its body
 abbrev raised : Rule → (List ℕ → ℕ) → List ℕ → ℕ
@@ -45,30 +50,61 @@ levels_exist rules ordered =
     let levels : Levels = fold (with_level level.0) [] (flat_map names_in rules) in
     (levels, are_levels rules level.0 level.1 levels refl)
 
--- the rules of a specification read earlier heads alone
-pub rules_are_ordered : (bytes : List ℕ) (rules : List Rule) → rules_of bytes ≡ Some rules → reads_earlier_heads rules ≡ true
-rules_are_ordered bytes rules read = (are_read bytes rules read).ordered
+-- every source has an answer
+abbrev pub AreAnswered : Type 0
+AreAnswered = (source : List ℕ) → (answer : Result (List Module) ParseFault) × Parses source answer
 
--- a specification of some rules spells them
-pub rules_read : (bytes : List ℕ) (rules : List Rule) → specified bytes ≡ Rules rules → rules_of bytes ≡ Some rules
-unfolding specified
-rules_read bytes rules = by (nat_lt specification_limit (length bytes)) (rules_of bytes)
+-- sources one after the other
+one_more : (source : List ℕ) (sources : List (List ℕ)) (first : Result (List Module) ParseFault) (rest : Result (List Module) (ℕ × ParseFault)) → Parses source first → AreParsed sources rest
+    → (all : Result (List Module) (ℕ × ParseFault)) × AreParsed (source ∷ sources) all
+one_more source sources (Err fault) rest p h = (Err (0, fault), refused p)
+one_more source sources (Ok modules) (Ok rest) p h = (Ok (modules ++ rest), more p h)
+one_more source sources (Ok modules) (Err e) p h = (Err (suc e.0, e.1), later {place = e.0} {fault = e.1} p h)
+
+pub parsed_exist : AreAnswered → (sources : List (List ℕ)) → (all : Result (List Module) (ℕ × ParseFault)) × AreParsed sources all
+parsed_exist answered [] = (Ok [], none)
+parsed_exist answered (source ∷ sources) =
+    let first = answered source in
+    let rest = parsed_exist answered sources in
+    one_more source sources first.0 rest.0 first.1 rest.1
+
+-- a defined answer, and after how many files it is known
+abbrev pub SomeAnswer : List (List ℕ) → List ℕ → Type 0
+SomeAnswer sources trace = (reads : ℕ) × (answer : Answer) × FollowDefines sources trace reads answer
+
+-- sources within the limit have an answer, which isn't known before all of them are read
+pub within_answer : AreAnswered → (sources : List (List ℕ)) (trace : List ℕ) → passing specification_limit sources ≡ None → (reads : ℕ) × (answer : Answer) × FollowDefines sources trace reads answer × (length sources ≤ reads)
+within_answer answered sources trace fits = by (parsed_exist answered sources).0 (parsed_exist answered sources).1
   where
-    by : (long : Bool) (read : Option (List Rule)) → (if long then TooLong else in_form read) ≡ Rules rules → read ≡ Some rules
-    by true read e = cc
-    by false None e = cc
-    by false (Some more) e = cc
+    by_rules : (modules : List Module) (found : Option (List Rule)) → AreParsed sources (Ok modules) → rules_of modules ≡ found → (reads : ℕ) × (answer : Answer) × FollowDefines sources trace reads answer × (length sources ≤ reads)
+    by_rules modules None parsed e = (length sources, refusal status.Unbuilt, unbuilt fits parsed e, omega arith)
+    by_rules modules (Some rules) parsed e =
+        let levels = levels_exist rules (are_built modules rules e).ordered in
+        let plan = plan_of rules levels.0 in
+        (suc (length sources), followed plan true trace, planned fits parsed e (record { levels = levels.0; each_level = levels.1; made = refl }), omega arith)
 
--- what the bytes of a specification are has an answer
-pub follow_answer : (bytes trace : List ℕ) (is : Specified) → specified bytes ≡ is → (answer : Answer) × FollowDefines is trace answer
-follow_answer bytes trace TooLong e = (refusal status.SpecificationTooLong, refl)
-follow_answer bytes trace NoForm e = (refusal status.Unbuilt, refl)
-follow_answer bytes trace (Rules rules) e =
-    let levels = levels_exist rules (rules_are_ordered bytes rules (rules_read bytes rules e)) in
-    let plan = plan_of rules levels.0 in
-    (followed plan true trace, (plan, record { levels = levels.0; each_level = levels.1; made = refl }, refl))
+    by : (all : Result (List Module) (ℕ × ParseFault)) → AreParsed sources all → (reads : ℕ) × (answer : Answer) × FollowDefines sources trace reads answer × (length sources ≤ reads)
+    by (Err e) parsed = (length sources, refusal (refused_at e.0 e.1), answers.refused {place = e.0} {fault = e.1} fits parsed, omega arith)
+    by (Ok modules) parsed = by_rules modules (rules_of modules) parsed refl
+
+-- where the sources before a place are within the limit, there is an answer that isn't known before the one at the place is read
+pub later_answer : AreAnswered → (sources : List (List ℕ)) (trace : List ℕ) (place : ℕ) → place < length sources → passing specification_limit (take place sources) ≡ None
+    → (reads : ℕ) × (answer : Answer) × FollowDefines sources trace reads answer × (place < reads)
+later_answer answered sources trace place low before = by (passing specification_limit sources) refl
+  where
+    by : (passed : Option ℕ) → passing specification_limit sources ≡ passed → (reads : ℕ) × (answer : Answer) × FollowDefines sources trace reads answer × (place < reads)
+    by None e = let some = within_answer answered sources trace e in (some.0, some.1, some.2, omega (arith, some.3))
+    by (Some at) e = (suc at, refusal status.SpecificationTooLong, too_long e, omega (arith, passing_not_in specification_limit place at sources (omega arith) before e))
+
+-- sources have an answer
+pub follow_answer : AreAnswered → (sources : List (List ℕ)) (trace : List ℕ) → SomeAnswer sources trace
+follow_answer answered sources trace = by (passing specification_limit sources) refl
+  where
+    by : (passed : Option ℕ) → passing specification_limit sources ≡ passed → SomeAnswer sources trace
+    by None e = let some = within_answer answered sources trace e in (some.0, some.1, some.2)
+    by (Some place) e = (suc place, refusal status.SpecificationTooLong, too_long e)
 
 -- every question has a defined answer
-pub some_answer : (asked : Option Asked) (files : Files) → (answer : Answer) × Defines asked files answer
-some_answer None files = (refusal status.Usage, refl)
-some_answer (Some (Follow file)) files = follow_answer (bytes_of files file) (bytes_of files trace_word) (specified (bytes_of files file)) refl
+pub some_answer : AreAnswered → (asked : Option Asked) (files : Files) → (reads : ℕ) × (answer : Answer) × Defines asked files reads answer
+some_answer answered None files = (0, refusal status.Usage, (refl, refl))
+some_answer answered (Some (Follow names)) files = follow_answer answered (sources_of files names) (bytes_of files trace_word)

@@ -10,9 +10,13 @@ pub mod Returns
 pub mod FileBytes
 pub mod Changed
 pub mod Answered
-pub mod RulePieces
 pub mod Order
-pub mod Spelled
+pub mod Built
+pub mod Outside
+pub mod Passing
+pub mod Parsed
+pub mod FilesRead
+pub mod AskedFor
 pub mod EachOnce
 pub mod RuleLevels
 pub mod NameLevels

@@ -1,5 +1,5 @@
 -- No question has two defined answers.
-use Rattle.std.proofs.Common.{◌≡◌, ℕ, suc, Bool, true, false, cond, not, ◌&&◌, List, [], ◌∷◌, ◌++◌, get_or, map, filter, flat_map, All, Contains, bytes_eq, refl, ap, sym, ◌∙◌, subst, append_assoc, Option, Some, None, unwrap_or}
+use Rattle.std.proofs.Common.{◌≡◌, ℕ, suc, Bool, true, false, cond, not, ◌&&◌, List, [], ◌∷◌, ◌++◌, get_or, map, filter, flat_map, All, Contains, bytes_eq, refl, ap, sym, ◌∙◌, subst, append_assoc, Option, Some, None, Result, Ok, Err, unwrap_or}
 use Rattle.std.specs.List.{list_all}
 use Rattle.std.proofs.lemmas.List.Folds.{list_all-append, list_all-map}
 use Rattle.std.proofs.lemmas.List.Elements.{All-nil, All-append, All-head, All-tail, All-filter, All-contains, All-from_recursion, All-weaker, Contains-get_or}
@@ -10,14 +10,22 @@ use Rattle.nf_core.specs.declared.trees.Atom.{Atom}
 use Rattle.nf_core.specs.declared.trees.Rule.{Rule}
 use Rattle.nf_core.proofs.PlanOf.{known_names}
 use Rattle.nf_io.specs.Files.{Files, bytes_of}
+use Rattle.nf_core.specs.declared.trees.Module.{Module}
+use Rattle.nf_parse.specs.Parses.{Parses, settled as settled_source}
+use Rattle.nf_parse.specs.declared.fault.ParseFault.{ParseFault}
+use Rattle.nf_parse.specs.declared.fault.ParseFault.TheVariants as fault
 use Rattle.nfer_cli.specs.Words.{Asked, Follow, trace_word}
-use Rattle.nfer_cli.specs.Specification.{is_head_of, reads_earlier_heads, IsPlanOf}
+use Rattle.nfer_cli.specs.Sources as of_sources
+use Rattle.nfer_cli.specs.Sources.{sources_of, AreParsed}
+use Rattle.nfer_cli.specs.Specification.{is_head_of, reads_earlier_heads, rules_of, IsPlanOf}
 use Rattle.nfer_cli.specs.RuleLevels.{level_over, AreFound}
-use Rattle.nfer_cli.specs.Answers.{Answer, Specified, TooLong, NoForm, Rules, followed, specified, FollowDefines, Defines}
+use Rattle.nfer_cli.specs.Answers as answers
+use Rattle.nfer_cli.specs.Answers.{Answer, refused_at, followed, FollowDefines, too_long, unbuilt, planned, Defines}
+use Rattle.nfer_cli.specs.Settled.{settled, AreAlike, IsSameAnswer}
 use Rattle.nfer_cli.proofs.Flat.{All-flat_map}
 use Rattle.nfer_cli.proofs.Bools.{both, neither}
 use Rattle.nfer_cli.proofs.RuleLevels.{read_by}
-use Rattle.nfer_cli.proofs.DefinedAnswers.{rules_are_ordered, rules_read}
+use Rattle.nfer_cli.proofs.Built.{are_built}
 
 -- names that no rule of some has as its head
 abbrev AreNoHeads : List Rule → List (List ℕ) → Type 0
@@ -162,14 +170,95 @@ one_plan_of rules a b ordered at_a at_b =
 pub one_plan : (rules : List Rule) (p q : Plan) → reads_earlier_heads rules ≡ true → IsPlanOf rules p → IsPlanOf rules q → p ≡ q
 one_plan rules p q ordered is_p is_q = is_p.made ∙ one_plan_of rules is_p.levels is_q.levels ordered is_p.each_level is_q.each_level ∙ sym is_q.made
 
--- what the bytes of a specification are has no two answers
-one_follow_answer : (bytes trace : List ℕ) (is : Specified) → specified bytes ≡ is → (a b : Answer) → FollowDefines is trace a → FollowDefines is trace b → a ≡ b
-one_follow_answer bytes trace TooLong e a b is_a is_b = is_a ∙ sym is_b
-one_follow_answer bytes trace NoForm e a b is_a is_b = is_a ∙ sym is_b
-one_follow_answer bytes trace (Rules rules) e a b is_a is_b =
-    is_a.2 ∙ ap (λ plan. followed plan true trace) (one_plan rules is_a.0 is_b.0 (rules_are_ordered bytes rules (rules_read bytes rules e)) is_a.1 is_b.1) ∙ sym is_b.2
+-- two answers to a source are alike
+abbrev pub AreOne : Type 0
+AreOne = (source : List ℕ) (a b : Result (List Module) ParseFault) → Parses source a → Parses source b → settled_source a ≡ settled_source b
+
+-- two answers to some sources are alike: the same modules, or a refusal of the same source, in which the same is settled
+abbrev AreAgreed : Result (List Module) (ℕ × ParseFault) → Result (List Module) (ℕ × ParseFault) → Type 0
+AreAgreed (Ok a) (Ok b) = a ≡ b
+AreAgreed (Err a) (Err b) = (a.0 ≡ b.0) × (settled_source (Err a.1) ≡ settled_source (Err b.1))
+AreAgreed (Ok a) (Err b) = ⊥
+AreAgreed (Err a) (Ok b) = ⊥
+
+modules_are : (a b : List Module) → settled_source (Ok a) ≡ settled_source (Ok b) → a ≡ b
+modules_are a b e = cc
+
+not_both : (modules : List Module) (why : ParseFault) → settled_source (Ok modules) ≡ settled_source (Err why) → ⊥
+not_both modules (fault.Lex lexical) e = cc
+not_both modules (fault.Grammar line) e = cc
+not_both modules (fault.TooDeep line) e = cc
+not_both modules fault.NoMemory e = cc
+
+all_agree : AreOne → (sources : List (List ℕ)) (a b : Result (List Module) (ℕ × ParseFault)) → AreParsed sources a → AreParsed sources b → AreAgreed a b
+all_agree one sources a b of_sources.none of_sources.none = refl
+all_agree one sources a b (of_sources.more {source} {sources = rest_of} {modules} {rest} p h) (of_sources.more {modules = others} {rest = last} q k) =
+    let first = modules_are modules others (one source (Ok modules) (Ok others) p q) in
+    let later = all_agree one rest_of (Ok rest) (Ok last) h k in
+    λ i. first i ++ later i
+all_agree one sources a b (of_sources.more {source} {sources = rest_of} {modules} {rest} p h) (of_sources.refused {fault = why} q) = not_both modules why (one source (Ok modules) (Err why) p q)
+all_agree one sources a b (of_sources.more {source} {sources = rest_of} {modules} {rest} p h) (of_sources.later {place = place} {fault = why} q k) = absurd (all_agree one rest_of (Ok rest) (Err (place, why)) h k)
+all_agree one sources a b (of_sources.refused {source} {sources = rest_of} {fault = why} p) (of_sources.more {modules = modules} q k) = not_both modules why (sym (one source (Err why) (Ok modules) p q))
+all_agree one sources a b (of_sources.refused {source} {sources = rest_of} {fault = why} p) (of_sources.refused {fault = other} q) = (refl, one source (Err why) (Err other) p q)
+all_agree one sources a b (of_sources.refused {source} {sources = rest_of} {fault = why} p) (of_sources.later {modules = modules} q k) = absurd (not_both modules why (sym (one source (Err why) (Ok modules) p q)))
+all_agree one sources a b (of_sources.later {source} {sources = rest_of} {modules} {place} {fault = why} p h) (of_sources.more {rest = rest} q k) = absurd (all_agree one rest_of (Err (place, why)) (Ok rest) h k)
+all_agree one sources a b (of_sources.later {source} {sources = rest_of} {modules} {place} {fault = why} p h) (of_sources.refused {fault = other} q) = absurd (not_both modules other (one source (Ok modules) (Err other) p q))
+all_agree one sources a b (of_sources.later {source} {sources = rest_of} {modules} {place} {fault = why} p h) (of_sources.later {place = at} {fault = other} q k) =
+    let rest = all_agree one rest_of (Err (place, why)) (Err (at, other)) h k in
+    (ap suc rest.0, rest.1)
+
+-- refusals of the same source in which the same is settled have alike statuses
+refused_alike : (place at : ℕ) (why other : ParseFault) → place ≡ at → settled_source (Err why) ≡ settled_source (Err other) → AreAlike (refused_at place why) (refused_at at other)
+refused_alike place at (fault.Lex lexical) (fault.Lex other) e f = cc
+refused_alike place at (fault.Lex lexical) (fault.Grammar line) e f = cc
+refused_alike place at (fault.Lex lexical) (fault.TooDeep line) e f = cc
+refused_alike place at (fault.Lex lexical) fault.NoMemory e f = cc
+refused_alike place at (fault.Grammar line) (fault.Lex other) e f = cc
+refused_alike place at (fault.Grammar line) (fault.Grammar other) e f = cc
+refused_alike place at (fault.Grammar line) (fault.TooDeep other) e f = cc
+refused_alike place at (fault.Grammar line) fault.NoMemory e f = cc
+refused_alike place at (fault.TooDeep line) (fault.Lex other) e f = cc
+refused_alike place at (fault.TooDeep line) (fault.Grammar other) e f = cc
+refused_alike place at (fault.TooDeep line) (fault.TooDeep other) e f = cc
+refused_alike place at (fault.TooDeep line) fault.NoMemory e f = cc
+refused_alike place at fault.NoMemory (fault.Lex other) e f = cc
+refused_alike place at fault.NoMemory (fault.Grammar line) e f = cc
+refused_alike place at fault.NoMemory (fault.TooDeep line) e f = cc
+refused_alike place at fault.NoMemory fault.NoMemory e f = refl
+
+-- sources have no two answers
+one_follow_answer : AreOne → (sources : List (List ℕ)) (trace : List ℕ) (m n : ℕ) (a b : Answer) → FollowDefines sources trace m a → FollowDefines sources trace n b → IsSameAnswer m a n b
+one_follow_answer one sources trace m n a b (too_long {place} e) (too_long {place = at} f) = let same : place ≡ at = cc in record { reads = ap suc same; text = refl; status = refl }
+one_follow_answer one sources trace m n a b (too_long e) (answers.refused f q) = absurd cc
+one_follow_answer one sources trace m n a b (too_long e) (unbuilt f q s) = absurd cc
+one_follow_answer one sources trace m n a b (too_long e) (planned f q s t) = absurd cc
+one_follow_answer one sources trace m n a b (answers.refused e p) (too_long f) = absurd cc
+one_follow_answer one sources trace m n a b (answers.refused {place} {fault = why} e p) (answers.refused {place = at} {fault = other} f q) =
+    let agreed = all_agree one sources (Err (place, why)) (Err (at, other)) p q in
+    record { reads = refl; text = refl; status = refused_alike place at why other agreed.0 agreed.1 }
+one_follow_answer one sources trace m n a b (answers.refused {place} {fault = why} e p) (unbuilt {modules} f q s) = absurd (all_agree one sources (Err (place, why)) (Ok modules) p q)
+one_follow_answer one sources trace m n a b (answers.refused {place} {fault = why} e p) (planned {modules} f q s t) = absurd (all_agree one sources (Err (place, why)) (Ok modules) p q)
+one_follow_answer one sources trace m n a b (unbuilt e p r) (too_long f) = absurd cc
+one_follow_answer one sources trace m n a b (unbuilt {modules} e p r) (answers.refused {place} {fault = why} f q) = absurd (all_agree one sources (Ok modules) (Err (place, why)) p q)
+one_follow_answer one sources trace m n a b (unbuilt e p r) (unbuilt f q s) = record { reads = refl; text = refl; status = refl }
+one_follow_answer one sources trace m n a b (unbuilt {modules} e p r) (planned {modules = others} f q s t) =
+    let same = all_agree one sources (Ok modules) (Ok others) p q in
+    let rules = ap rules_of same in absurd cc
+one_follow_answer one sources trace m n a b (planned e p r l) (too_long f) = absurd cc
+one_follow_answer one sources trace m n a b (planned {modules} e p r l) (answers.refused {place} {fault = why} f q) = absurd (all_agree one sources (Ok modules) (Err (place, why)) p q)
+one_follow_answer one sources trace m n a b (planned {modules} e p r l) (unbuilt {modules = others} f q s) =
+    let same = all_agree one sources (Ok modules) (Ok others) p q in
+    let rules = ap rules_of same in absurd cc
+one_follow_answer one sources trace m n a b (planned {modules} {rules} {plan} e p r l) (planned {modules = others} {rules = more_rules} {plan = other} f q s t) =
+    let same = all_agree one sources (Ok modules) (Ok others) p q in
+    let both_rules = ap rules_of same in
+    let is : rules ≡ more_rules = cc in
+    let plans = one_plan rules plan other (are_built modules rules r).ordered l (subst (λ rs. IsPlanOf rs other) (sym is) t) in
+    record { reads = refl; text = ap (λ p. (followed p true trace).text) plans; status = ap (λ p. settled (followed p true trace).status) plans }
 
 -- no question has two defined answers
-pub one_answer : (asked : Option Asked) (files : Files) (a b : Answer) → Defines asked files a → Defines asked files b → a ≡ b
-one_answer None files a b is_a is_b = is_a ∙ sym is_b
-one_answer (Some (Follow file)) files a b is_a is_b = one_follow_answer (bytes_of files file) (bytes_of files trace_word) (specified (bytes_of files file)) refl a b is_a is_b
+pub one_answer : AreOne → (asked : Option Asked) (files : Files) (m n : ℕ) (a b : Answer) → Defines asked files m a → Defines asked files n b → IsSameAnswer m a n b
+one_answer one None files m n a b is_a is_b =
+    let same : a ≡ b = is_a.1 ∙ sym is_b.1 in
+    record { reads = is_a.0 ∙ sym is_b.0; text = ap (λ (x : Answer). x.text) same; status = ap (λ (x : Answer). settled x.status) same }
+one_answer one (Some (Follow names)) files m n a b is_a is_b = one_follow_answer one (sources_of files names) (bytes_of files trace_word) m n a b is_a is_b

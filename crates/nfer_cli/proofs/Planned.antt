@@ -14,11 +14,13 @@ use Rattle.nf_core.specs.declared.trees.Entry.{Entry}
 use Rattle.nf_core.specs.declared.trees.Rule.{Rule}
 use Rattle.nf_core.proofs.Bare.{keys_of_name-bare}
 use Rattle.nf_model.specs.Built.{IsBuilt, IsBuiltLink}
-use Rattle.nfer_cli.specs.Specification.{rules_of, specification_limit}
+use Rattle.nf_core.specs.declared.trees.Module.{Module}
+use Rattle.nfer_cli.specs.Sources.{specification_limit}
+use Rattle.nfer_cli.specs.Specification.{rules_of}
 use Rattle.nfer_cli.specs.ReadPlan.{IsReadFrom}
 use Rattle.nfer_cli.proofs.Flat.{All-flat_map}
 use Rattle.nfer_cli.proofs.EachOnce.{with_text, All-each_once}
-use Rattle.nfer_cli.proofs.Spelled.{IsName, IsPlainBody, IsPlainRule, AreRead, are_read}
+use Rattle.nfer_cli.proofs.Built.{IsName, IsPlainBody, IsPlainRule}
 
 All-weaker : {X : Type 0} (P Q : X → Type 0) → ((x : X) → P x → Q x) → (xs : List X) → All P xs → All Q xs
 All-weaker P Q f xs h = λ k d low. f (get_or xs k d) (h k d low)
@@ -50,14 +52,14 @@ names_of_few rules = omega (arith, with_texts_few (flat_map names_in rules) [], 
 pub all_bare : (rules : List Rule) → All IsPlainRule rules → All IsBare rules
 all_bare rules plain = All-weaker IsPlainRule IsBare (λ rule p. p.bare) rules plain
 
-pub can_be_planned : (bytes : List ℕ) (rules : List Rule) → length bytes ≤ specification_limit → AreRead bytes rules → CanBePlanned rules
-can_be_planned bytes rules low read =
-    let bare = all_bare rules read.plain in
+pub can_be_planned : (rules : List Rule) → length rules ≤ specification_limit → All IsPlainRule rules → CanBePlanned rules
+can_be_planned rules few plain =
+    let bare = all_bare rules plain in
     record {
-      few_rules = omega (arith, read.few, low);
-      few_names = omega (arith, read.few, low, names_of_few rules);
+      few_rules = omega (arith, few);
+      few_names = omega (arith, few, names_of_few rules);
       few_keys = λ k d h. subst (λ (keys : List (List ℕ)). length keys < 2 ^ 32) (sym (keys_of_name-bare rules (get_or (names_of rules) k d) bare)) (lit< tt);
-      names = All-each_once IsName (flat_map names_in rules) (All-flat_map IsName names_in rules (All-weaker IsPlainRule (λ rule. All IsName (names_in rule)) (λ rule p. p.names) rules read.plain));
+      names = All-each_once IsName (flat_map names_in rules) (All-flat_map IsName names_in rules (All-weaker IsPlainRule (λ rule. All IsName (names_in rule)) (λ rule p. p.names) rules plain));
       keys = λ k d h. subst (All IsName) (sym (keys_of_name-bare rules (get_or (names_of rules) k d) bare)) (All-nil IsName);
     }
 
@@ -75,11 +77,11 @@ built rules rule plain = record {
   stop = ap (option_map (term_of rules rule.body)) plain.bare.stop;
 }
 
--- the plan of the rules of a specification
-pub is_read_from : (bytes : List ℕ) (rules : List Rule) (levels : Levels) (plan : Plan) → rules_of bytes ≡ Some rules → AreLevels rules levels → plan ≡ plan_of rules levels → IsReadFrom bytes plan
-is_read_from bytes rules levels plan e l made = record {
+-- the plan of the rules of some modules
+pub is_read_from : (modules : List Module) (rules : List Rule) (levels : Levels) (plan : Plan) → rules_of modules ≡ Some rules → All IsPlainRule rules → AreLevels rules levels → plan ≡ plan_of rules levels → IsReadFrom modules plan
+is_read_from modules rules levels plan e plain l made = record {
   rules = rules;
   read = e;
   made = record { levels = levels; each_level = l; made = made };
-  built = subst (λ (p : Plan). All IsBuilt p.rules) (sym made) (All-map IsBuilt (plan_rule rules) rules (All-weaker IsPlainRule (λ rule. IsBuilt (plan_rule rules rule)) (built rules) rules (are_read bytes rules e).plain));
+  built = subst (λ (p : Plan). All IsBuilt p.rules) (sym made) (All-map IsBuilt (plan_rule rules) rules (All-weaker IsPlainRule (λ rule. IsBuilt (plan_rule rules rule)) (built rules) rules plain));
 }

@@ -1,12 +1,16 @@
 -- The defined answer to the words and the files, and how the end of a call stands to it.
-use Rattle.std.specs.Prelude.{◌≡◌, ℕ, ◌+◌, ◌≤◌, ◌<◌, Bool, true, false, nat_lt, List, [], drop, length, Option, Some, None, IfSome, ⊤, slice_index_or, if◌then◌else◌}
+use Rattle.std.specs.Prelude.{◌≡◌, ◌⊎◌, ℕ, suc, ◌+◌, ◌-◌, ◌≤◌, ◌<◌, Bool, true, nat_lt, List, [], drop, take, map, sum, length, Ok, Err, Option, Some, None, IfSome, ⊤, slice_index_or, if◌then◌else◌}
 use Rattle.nf_core.specs.Plan.{Plan}
-use Rattle.nf_core.specs.declared.trees.Rule.{Rule}
+use Rattle.nf_core.specs.Trees.{Rule}
+use Rattle.nf_core.specs.declared.trees.Module.{Module}
 use Rattle.nf_io.specs.Files.{Files, bytes_of, asked_of}
 use Rattle.nf_io.specs.Causes.{Rose}
 use Rattle.nf_io.specs.Bytes.{Took, TookPart, TookPrefix}
 use Rattle.nfer_cli.specs.Words.{Asked, Follow, trace_word}
-use Rattle.nfer_cli.specs.Specification.{specification_limit, rules_of, IsPlanOf}
+use Rattle.nf_parse.specs.declared.fault.ParseFault.{ParseFault}
+use Rattle.nf_parse.specs.declared.fault.ParseFault.TheVariants as fault
+use Rattle.nfer_cli.specs.Sources.{specification_limit, sources_of, passing, AreParsed}
+use Rattle.nfer_cli.specs.Specification.{rules_of, IsPlanOf}
 use Rattle.nfer_cli.specs.Trace.{Ending, Done, Refused, InNoForm, Falls, trace}
 use Rattle.nfer_cli.specs.Follow.{follow_text}
 use Rattle.nfer_cli.specs.declared.status.Status.{Status}
@@ -41,43 +45,33 @@ followed plan full bytes =
     if nat_lt trace_limit (length bytes) then refusal status.TraceUnbuilt
     else record { text = follow_text plan full (trace bytes).events; status = status_of (trace bytes).ending }
 
--- what the bytes of a specification are: too long, in no form, or rules
-pub data Specified : Type 0 where
-  TooLong : Specified
-  NoForm : Specified
-  Rules : List Rule → Specified
+-- the status of a refused source, by its place among the files
+abbrev pub refused_at : ℕ → ParseFault → Status
+refused_at place (fault.Lex lexical) = status.Lexical place lexical
+refused_at place (fault.Grammar line) = status.Grammar place line
+refused_at place (fault.TooDeep line) = status.TooDeep place line
+refused_at place fault.NoMemory = status.NoMemory
 
-abbrev pub in_form : Option (List Rule) → Specified
-in_form None = NoForm
-in_form (Some rules) = Rules rules
+-- the answer of `follow --full` to the sources of a specification and the bytes of a trace, and how many files are read before it is known:
+-- all sources together are too long, which is known with the source that passes the limit; or, all of them being read, one is refused, or they are in no form that this stage builds; or the trace is followed under their plan
+pub data FollowDefines (sources : List (List ℕ)) (bytes : List ℕ) : ℕ → Answer → Type 0 where
+  too_long : {place : ℕ} → passing specification_limit sources ≡ Some place → FollowDefines sources bytes (suc place) (refusal status.SpecificationTooLong)
+  refused : {place : ℕ} {fault : ParseFault} → passing specification_limit sources ≡ None → AreParsed sources (Err (place, fault)) → FollowDefines sources bytes (length sources) (refusal (refused_at place fault))
+  unbuilt : {modules : List Module} → passing specification_limit sources ≡ None → AreParsed sources (Ok modules) → rules_of modules ≡ None → FollowDefines sources bytes (length sources) (refusal status.Unbuilt)
+  planned : {modules : List Module} {rules : List Rule} {plan : Plan} → passing specification_limit sources ≡ None → AreParsed sources (Ok modules) → rules_of modules ≡ Some rules → IsPlanOf rules plan
+      → FollowDefines sources bytes (suc (length sources)) (followed plan true bytes)
 
-unfoldable pub specified : List ℕ → Specified
-specified bytes = if nat_lt specification_limit (length bytes) then TooLong else in_form (rules_of bytes)
+-- the defined answer to what is asked, over the files, and how many of the command's files are read before it is known
+abbrev pub Defines : Option Asked → Files → ℕ → Answer → Type 0
+Defines None files reads answer = (reads ≡ 0) × (answer ≡ refusal status.Usage)
+Defines (Some (Follow names)) files reads answer = FollowDefines (sources_of files names) (bytes_of files trace_word) reads answer
 
--- the answer of `follow --full` to a specification and the bytes of a trace
-abbrev pub FollowDefines : Specified → List ℕ → Answer → Type 0
-FollowDefines TooLong bytes answer = answer ≡ refusal status.SpecificationTooLong
-FollowDefines NoForm bytes answer = answer ≡ refusal status.Unbuilt
-FollowDefines (Rules rules) bytes answer = (plan : Plan) × IsPlanOf rules plan × (answer ≡ followed plan true bytes)
-
--- the defined answer to what is asked, over the files
-abbrev pub Defines : Option Asked → Files → Answer → Type 0
-Defines None files answer = answer ≡ refusal status.Usage
-Defines (Some (Follow file)) files answer = FollowDefines (specified (bytes_of files file)) (bytes_of files trace_word) answer
-
--- whether a status is known before the file at a place is read
-abbrev pub is_known_before : ℕ → Status → Bool
-is_known_before place status.Usage = true
-is_known_before place status.SpecificationTooLong = nat_lt 0 place
-is_known_before place status.Unbuilt = nat_lt 0 place
-is_known_before place other = false
-
--- a call ends with the defined status, or with a fault that comes before it, or with want of memory
-abbrev pub EndsFor : Status → Status → Type 0
-EndsFor (status.ReadFault place) defined = is_known_before place defined ≡ false
-EndsFor status.WriteFault defined = ⊤
-EndsFor status.NoMemory defined = ⊤
-EndsFor result defined = result ≡ defined
+-- a call ends with the defined status, or with a fault that comes before it, or with want of memory: a read fault comes only at a file that is read before the status is known
+abbrev pub EndsFor : ℕ → Status → Status → Type 0
+EndsFor reads (status.ReadFault place) defined = place < reads
+EndsFor reads status.WriteFault defined = ⊤
+EndsFor reads status.NoMemory defined = ⊤
+EndsFor reads result defined = result ≡ defined
 
 -- what was taken of the defined text: less than the whole where a write failed, a prefix where a read failed or memory was wanted, else the whole
 abbrev pub Wrote : Status → Option (List ℕ) → Option (List ℕ) → List ℕ → Type 0
@@ -87,10 +81,11 @@ Wrote status.NoMemory before now text = TookPrefix before now text
 Wrote result before now text = Took before now text
 
 -- a call answered for a defined answer: by its status, and by what was taken of its text
-pub record Answers (Defined : Answer → Type 0) (result : Status) (before now : Option (List ℕ)) : Type 0 where
+pub record Answers (Defined : ℕ → Answer → Type 0) (result : Status) (before now : Option (List ℕ)) : Type 0 where
+  pub reads : ℕ
   pub answer : Answer
-  pub defined : Defined answer
-  pub ends : EndsFor result answer.status
+  pub defined : Defined reads answer
+  pub ends : EndsFor reads result answer.status
   pub writes : Wrote result before now answer.text
 
 -- one of the files with these names couldn't be read: the shelf's faults rose, its last call failed, and it was asked for that file
@@ -117,26 +112,44 @@ pub record StandsAtEnd (files : Files) (name : List ℕ) (last rest : Option (Li
   pub asked_is : last ≡ Some (asked_of files name)
   pub rest_is : rest ≡ Some []
 
--- where reading of the trace stood at the end: it was read whole, or, where it is too long, to one piece past the limit at most
+-- where reading of the trace stood at the end: it was read whole before the first write, or, where it is too long, to one piece past the limit at most
 abbrev pub TraceReadsTo : Status → Files → Option (List ℕ) → Option (List ℕ) → Type 0
 TraceReadsTo status.TraceUnbuilt files last rest = StandsIn files trace_word (trace_limit + piece_limit) last rest
 TraceReadsTo status.Done files last rest = StandsAtEnd files trace_word last rest
 TraceReadsTo (status.LineUnbuilt line) files last rest = StandsAtEnd files trace_word last rest
 TraceReadsTo (status.Order line kept found) files last rest = StandsAtEnd files trace_word last rest
+TraceReadsTo status.WriteFault files last rest = StandsAtEnd files trace_word last rest
 TraceReadsTo other files last rest = ⊤
 
+-- the files of a specification were read up to the one with which they are too long, and of that one to one piece past the limit at most
+pub record StandsPast (names : List (List ℕ)) (files : Files) (last rest : Option (List ℕ)) : Type 0 where
+  pub place : ℕ
+  pub passes : passing specification_limit (sources_of files names) ≡ Some place
+  pub stands : StandsIn files (slice_index_or names place []) (specification_limit + piece_limit - sum (map length (take place (sources_of files names)))) last rest
+
+-- the files of a specification were read, each to its end
+abbrev pub StandsAfter : List (List ℕ) → Files → Option (List ℕ) → Option (List ℕ) → Type 0
+StandsAfter names files last rest = StandsAtEnd files (slice_index_or names (length names - 1) []) last rest
+
 -- where reading stood at the end: no read is made after a refusal is known, and at most one piece was read past the byte that shows it
-abbrev pub FollowReadsTo : List ℕ → Status → Files → Option (List ℕ) → Option (List ℕ) → Type 0
-FollowReadsTo file status.SpecificationTooLong files last rest = StandsIn files file (specification_limit + piece_limit) last rest
-FollowReadsTo file status.Unbuilt files last rest = StandsAtEnd files file last rest
-FollowReadsTo file result files last rest = TraceReadsTo result files last rest
+abbrev pub FollowReadsTo : List (List ℕ) → Status → Files → Option (List ℕ) → Option (List ℕ) → Type 0
+FollowReadsTo names status.SpecificationTooLong files last rest = StandsPast names files last rest
+FollowReadsTo names (status.Lexical place fault) files last rest = StandsAfter names files last rest
+FollowReadsTo names (status.Grammar place line) files last rest = StandsAfter names files last rest
+FollowReadsTo names (status.TooDeep place line) files last rest = StandsAfter names files last rest
+FollowReadsTo names status.Unbuilt files last rest = StandsAfter names files last rest
+FollowReadsTo names result files last rest = TraceReadsTo result files last rest
 
 -- where reading stood at the end of a call, by what is asked: words in no form leave the shelf as it was
 abbrev pub ReadsTo : Option Asked → Status → Files → (asked_before rest_before last rest : Option (List ℕ)) → Type 0
 ReadsTo None result files asked_before rest_before last rest = (last ≡ asked_before) × (rest ≡ rest_before)
-ReadsTo (Some (Follow file)) result files asked_before rest_before last rest = FollowReadsTo file result files last rest
+ReadsTo (Some (Follow names)) result files asked_before rest_before last rest = FollowReadsTo names result files last rest
+
+-- the file that was asked for last is one of these, or is still that of before the call
+abbrev pub AsksWithin : List (List ℕ) → Files → Option (List ℕ) → Option (List ℕ) → Type 0
+AsksWithin names files before last = (last ≡ before) ⊎ ((place : ℕ) × (place < length names) × (last ≡ Some (asked_of files (slice_index_or names place []))))
 
 -- an answer to what is asked, or want of memory
-abbrev pub IsCompleteFor : (Answer → Type 0) → Status → Type 0
+abbrev pub IsCompleteFor : (ℕ → Answer → Type 0) → Status → Type 0
 IsCompleteFor Defined status.NoMemory = ⊤
-IsCompleteFor Defined result = (answer : Answer) × Defined answer × (result ≡ answer.status)
+IsCompleteFor Defined result = (reads : ℕ) × (answer : Answer) × Defined reads answer × (result ≡ answer.status)

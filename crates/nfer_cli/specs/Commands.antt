@@ -5,4 +5,4 @@ use Rattle.nfer_cli.specs.declared.words.Command.TheVariants as command
 
 -- a command asks for what its words say
 abbrev pub asked_by : Command → Asked
-asked_by (command.Follow file) = Follow file.now
+asked_by (command.Follow files) = Follow files.now

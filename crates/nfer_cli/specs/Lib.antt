@@ -6,6 +6,7 @@ pub mod Trace
 pub mod Readings
 pub mod Follow
 pub mod Replay
+pub mod Sources
 pub mod Specification
 pub mod RuleLevels
 pub mod ReadPlan
@@ -14,6 +15,8 @@ pub mod Commands
 pub mod Statuses
 pub mod Messages
 pub mod Answers
+pub mod Settled
+pub mod Parsing
 pub mod Reading
 pub mod Results
 pub mod Faults

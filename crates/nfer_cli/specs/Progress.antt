@@ -35,9 +35,9 @@ answer_from content number last pieces = record {
   status = status_of (trace_from number last pieces).ending;
 }
 
--- a call ended as an answer says, or with a fault or want of memory before it
+-- a call that reads no file ended as an answer says, or with a fault or want of memory before it
 pub record Ended (result : Status) (answer : Answer) (before now : Option (List ℕ)) : Type 0 where
-  pub ends : EndsFor result answer.status
+  pub ends : EndsFor 0 result answer.status
   pub writes : Wrote result before now answer.text
 
 -- a piece of an answer was written, and the rest of it is left

@@ -8,6 +8,9 @@ abbrev pub code_of : Status → ℕ
 code_of status.Done = 0
 code_of status.Usage = 1
 code_of status.SpecificationTooLong = 2
+code_of (status.Lexical place fault) = 2
+code_of (status.Grammar place line) = 2
+code_of (status.TooDeep place line) = 2
 code_of status.Unbuilt = 2
 code_of status.TraceUnbuilt = 3
 code_of (status.LineUnbuilt line) = 3

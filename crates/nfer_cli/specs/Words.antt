@@ -1,19 +1,24 @@
 -- The words of the command line, and what they ask for.
-use Rattle.std.specs.Prelude.{ℕ, Bool, true, not, ◌&&◌, ◌==◌, List, [], ◌∷◌, bytes_eq, codes, Option, Some, None, if◌then◌else◌, slice_index_or}
+use Rattle.std.specs.Prelude.{ℕ, ◌^◌, Bool, true, not, ◌&&◌, ◌==◌, nat_lt, List, [], ◌∷◌, ◌++◌, length, bytes_eq, codes, Option, Some, None, if◌then◌else◌, slice_index_or}
+use Rattle.std.specs.List.{list_all}
 
--- a command with what it is given: `follow --full FILE`
+-- a command with what it is given: `follow --full SPEC..`, the words of the specification's files
 pub data Asked : Type 0 where
-  Follow : List ℕ → Asked
+  Follow : List (List ℕ) → Asked
 
 -- a file word doesn't begin with `-`
 abbrev pub is_file_word : List ℕ → Bool
 is_file_word [] = true
 is_file_word (byte ∷ bytes) = not (byte == 45)
 
+-- one or more file words, fewer than 2^32
+abbrev pub are_file_words : List (List ℕ) → Bool
+are_file_words files = nat_lt 0 (length files) && nat_lt (length files) (2 ^ 32) && list_all is_file_word files
+
 -- what some words ask for; nothing where they are in no form
 unfoldable pub asked : List (List ℕ) → Option Asked
-asked (command ∷ option ∷ file ∷ []) =
-    if bytes_eq command (codes "follow") && bytes_eq option (codes "--full") && is_file_word file then Some (Follow file) else None
+asked (command ∷ option ∷ files) =
+    if bytes_eq command (codes "follow") && bytes_eq option (codes "--full") && are_file_words files then Some (Follow files) else None
 asked words = None
 
 -- the word under which a command reads its trace, standard input
@@ -23,7 +28,7 @@ trace_word = codes "-"
 -- the file words of a command in the order in which the files are read
 abbrev pub file_words : Option Asked → List (List ℕ)
 file_words None = []
-file_words (Some (Follow file)) = file ∷ trace_word ∷ []
+file_words (Some (Follow files)) = files ++ trace_word ∷ []
 
 -- the file word at a place, counted from 0
 abbrev pub file_word : List (List ℕ) → ℕ → List ℕ

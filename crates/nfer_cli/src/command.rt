@@ -1,32 +1,32 @@
 //! The top call.
 
-ghost use Rattle.std.specs.Prelude.{◌≡◌, ◌≢◌, ◌↔◌, ◌≤◌, true, IfSome, Some, None, All, length};
+ghost use Rattle.std.specs.Prelude.{◌≡◌, ◌⊎◌, ◌≢◌, ◌↔◌, ◌≤◌, ◌<◌, ◌+◌, ℕ, List, true, IfSome, Some, None, All, length};
 ghost use Rattle.nf_io.specs.Causes.{Rose};
 ghost use Rattle.nf_io.specs.Bytes.{Took};
-ghost use Rattle.nf_io.specs.Files.{bytes_of};
+ghost use Rattle.nf_io.specs.Files.{bytes_of, asked_of};
 ghost use Rattle.nf_model.specs.Built.{IsBuilt};
 ghost use Rattle.nfer_cli.specs.Words.{asked, Follow, file_words, trace_word};
 ghost use Rattle.nfer_cli.specs.Messages.{message};
-ghost use Rattle.nfer_cli.specs.Results.{end_of, IsFollowEnd};
+ghost use Rattle.nfer_cli.specs.Results.{end_of, IsFollowEnd, IsTraceEnd, IsSourcesEnd};
+ghost use Rattle.nfer_cli.specs.Sources.{specification_limit, passing};
 ghost use Rattle.nfer_cli.specs.Progress.{Ended};
-ghost use Rattle.nfer_cli.specs.Results.{IsTraceEnd};
 ghost use Rattle.nfer_cli.specs.Faults.{CannotReadTrace};
-ghost use Rattle.nfer_cli.specs.Answers.{Defines, Answers, ReadsTo, IfReadFault, CannotRead, IsCompleteFor, followed, specified, FollowDefines, FollowReadsTo, TraceReadsTo};
+ghost use Rattle.nfer_cli.specs.Answers.{Defines, Answers, ReadsTo, AsksWithin, IfReadFault, CannotRead, IsCompleteFor, followed, FollowDefines, FollowReadsTo, TraceReadsTo, StandsAfter};
 
 use crate::following::follow;
 use crate::messages::report;
+use crate::parsing::parse_sources;
 use crate::planning::read_plan;
 use crate::reading::{Unread, read_file};
+use crate::sources::read_sources;
 use crate::status::Status;
 use crate::words::{Command, TRACE_WORD, Words};
-use nf_core::{Plan, Steps};
+use nf_core::{Lines, Plan, Steps, Text};
 use nf_io::{Shelf, Sink};
 use nf_model::Scratch;
+use nf_parse::every_source_is_answered;
 use std::alloc::Global;
 use std::sync::ledger::Ledger;
-
-/// The most bytes of a specification.
-const SPECIFICATION_LIMIT: usize = 1_048_576;
 
 /// The most bytes of a trace, which this stage reads whole.
 const TRACE_LIMIT: usize = 1_048_576;
@@ -54,6 +54,9 @@ pub fn run<F: Shelf, O: Sink, E: Sink, L: Ledger>(
 
     // No read is made after a refusal is known, and at the end of the trace it was read whole.
     ensures reads { IfSome (F.files shelf.old) (λ files. ReadsTo (asked words.now) result files (F.asked shelf.old) (F.rest shelf.old) (F.asked shelf.new) (F.rest shelf.new)) }
+
+    // No file is asked for but those of the command.
+    ensures asks { IfSome (F.files shelf.old) (λ files. AsksWithin (file_words (asked words.now)) files (F.asked shelf.old) (F.asked shelf.new)) }
 
     // A fault comes only where its object failed in this call, and a read fault names the file.
     ensures read_fault { IfReadFault result (λ place. CannotRead (file_words (asked words.now)) place (F.files shelf.old) (F.faults shelf.old) (F.faults shelf.new) (F.failed shelf.new) (F.asked shelf.new)) }
@@ -85,12 +88,13 @@ fn carry_out<F: Shelf, O: Sink, L: Ledger>(
     ensures usage { (result ≡ Status.Usage) ↔ (asked words.now ≡ None) }
     ensures answer { IfSome (F.files shelf.old) (λ files. Answers (Defines (asked words.now) files) result (O.taken out.old) (O.taken out.new)) }
     ensures reads { IfSome (F.files shelf.old) (λ files. ReadsTo (asked words.now) result files (F.asked shelf.old) (F.rest shelf.old) (F.asked shelf.new) (F.rest shelf.new)) }
+    ensures asks { IfSome (F.files shelf.old) (λ files. AsksWithin (file_words (asked words.now)) files (F.asked shelf.old) (F.asked shelf.new)) }
     ensures read_fault { IfReadFault result (λ place. CannotRead (file_words (asked words.now)) place (F.files shelf.old) (F.faults shelf.old) (F.faults shelf.new) (F.failed shelf.new) (F.asked shelf.new)) }
     ensures write_fault { result ≡ Status.WriteFault → Rose (O.faults out.old) (O.faults out.new) }
     ensures untouched { result ≡ Status.Usage → F.faults shelf.new ≡ F.faults shelf.old }
 {
     match words.command() {
-        Some(Command::Follow(file)) => ended(follow_file(alloc, file, shelf, out, steps)),
+        Some(Command::Follow(files)) => ended(follow_files(alloc, files, shelf, out, steps)),
         None => Status::Usage,
     }
 }
@@ -105,65 +109,68 @@ fn ended(followed: Result<(), Status>) -> Status
     }
 }
 
-// Follows the trace under the specification in a file.
-fn follow_file<F: Shelf, O: Sink, L: Ledger>(
+// Follows the trace under the specification in some files.
+fn follow_files<F: Shelf, O: Sink, L: Ledger>(
     alloc: Global,
-    file: &str,
+    files: &[Text],
     shelf: &mut F,
     out: &mut O,
     steps: &mut Steps<L>,
 ) -> Result<(), Status>
-    ensures answer { IfSome (F.files shelf.old) (λ files. Answers (Defines (Some (Follow file.now)) files) (end_of result) (O.taken out.old) (O.taken out.new)) }
-    ensures reads { IfSome (F.files shelf.old) (λ files. ReadsTo (Some (Follow file.now)) (end_of result) files (F.asked shelf.old) (F.rest shelf.old) (F.asked shelf.new) (F.rest shelf.new)) }
+    requires { 0 < length files.now }
+    ensures answer { IfSome (F.files shelf.old) (λ told. Answers (Defines (Some (Follow files.now)) told) (end_of result) (O.taken out.old) (O.taken out.new)) }
+    ensures reads { IfSome (F.files shelf.old) (λ told. ReadsTo (Some (Follow files.now)) (end_of result) told (F.asked shelf.old) (F.rest shelf.old) (F.asked shelf.new) (F.rest shelf.new)) }
+    ensures asks { IfSome (F.files shelf.old) (λ told. AsksWithin (file_words (Some (Follow files.now))) told (F.asked shelf.old) (F.asked shelf.new)) }
     ensures usage { end_of result ≢ Status.Usage }
-    ensures read_fault { IfReadFault (end_of result) (λ place. CannotRead (file_words (Some (Follow file.now))) place (F.files shelf.old) (F.faults shelf.old) (F.faults shelf.new) (F.failed shelf.new) (F.asked shelf.new)) }
+    ensures read_fault { IfReadFault (end_of result) (λ place. CannotRead (file_words (Some (Follow files.now))) place (F.files shelf.old) (F.faults shelf.old) (F.faults shelf.new) (F.failed shelf.new) (F.asked shelf.new)) }
     ensures write_fault { end_of result ≡ Status.WriteFault → Rose (O.faults out.old) (O.faults out.new) }
 {
-    match read_file(alloc, shelf, file, SPECIFICATION_LIMIT) {
-        Ok(bytes) => follow_specification(alloc, bytes.as_slice(), shelf, out, steps),
-        Err(Unread::TooLong) => Err(Status::SpecificationTooLong),
-        Err(Unread::Unreadable) => Err(Status::ReadFault(0)),
-        Err(Unread::NoMemory) => Err(Status::NoMemory),
-    }
+    every_source_is_answered();
+    let sources = read_sources(alloc, shelf, files)?;
+    follow_sources(alloc, sources.as_slice(), shelf, out, steps)
 }
 
-// Follows the trace under a specification of these bytes.
-fn follow_specification<F: Shelf, O: Sink, L: Ledger>(
+// Follows the trace under a specification of these sources.
+fn follow_sources<F: Shelf, O: Sink, L: Ledger>(
     alloc: Global,
-    bytes: &[u8],
+    sources: &[Lines],
     shelf: &mut F,
     out: &mut O,
     steps: &mut Steps<L>,
 ) -> Result<(), Status>
-    requires { length bytes.now ≤ SPECIFICATION_LIMIT }
-    ensures answer { IfSome (F.files shelf.old) (λ files. Answers (FollowDefines (specified bytes.now) (bytes_of files trace_word)) (end_of result) (O.taken out.old) (O.taken out.new)) }
-    ensures unbuilt { end_of result ≡ Status.Unbuilt → (F.asked shelf.new ≡ F.asked shelf.old) × (F.rest shelf.new ≡ F.rest shelf.old) }
-    ensures reads { end_of result ≢ Status.Unbuilt → IfSome (F.files shelf.old) (λ files. TraceReadsTo (end_of result) files (F.asked shelf.new) (F.rest shelf.new)) }
-    ensures kinds { (end_of result ≢ Status.Usage) × (end_of result ≢ Status.SpecificationTooLong) }
-    ensures read_fault { IfReadFault (end_of result) (λ place. CannotReadTrace place (F.files shelf.old) (F.faults shelf.old) (F.faults shelf.new) (F.failed shelf.new) (F.asked shelf.new)) }
+    requires { passing specification_limit sources.now ≡ None }
+    ensures answer { IfSome (F.files shelf.old) (λ files. Answers (FollowDefines sources.now (bytes_of files trace_word)) (end_of result) (O.taken out.old) (O.taken out.new)) }
+    ensures reads { IfSome (F.files shelf.old) (λ files. (names : List (List ℕ)) → StandsAfter names files (F.asked shelf.old) (F.rest shelf.old) → FollowReadsTo names (end_of result) files (F.asked shelf.new) (F.rest shelf.new)) }
+    ensures asks { IfSome (F.files shelf.old) (λ files. (F.asked shelf.new ≡ F.asked shelf.old) ⊎ (F.asked shelf.new ≡ Some (asked_of files trace_word))) }
+    ensures kinds { IsSourcesEnd (end_of result) }
+    ensures read_fault { IfReadFault (end_of result) (λ place. CannotReadTrace (length sources.now) place (F.files shelf.old) (F.faults shelf.old) (F.faults shelf.new) (F.failed shelf.new) (F.asked shelf.new)) }
     ensures write_fault { end_of result ≡ Status.WriteFault → Rose (O.faults out.old) (O.faults out.new) }
     ensures files { F.files shelf.new ≡ F.files shelf.old }
     ensures never_falls { F.faults shelf.old ≤ F.faults shelf.new }
 {
-    match read_plan(alloc, bytes)? {
-        Some(plan) => follow_under(alloc, &plan, shelf, out, steps),
+    every_source_is_answered();
+    let modules = parse_sources(alloc, sources)?;
+    match read_plan(alloc, modules)? {
+        Some(plan) => follow_under(alloc, &plan, sources.len(), shelf, out, steps),
         None => Err(Status::Unbuilt),
     }
 }
 
-// Reads the trace, and follows it under a plan.
+// Reads the trace, which is the file at a place, and follows it under a plan.
 fn follow_under<F: Shelf, O: Sink, L: Ledger>(
     alloc: Global,
     plan: &Plan,
+    place: usize,
     shelf: &mut F,
     out: &mut O,
     steps: &mut Steps<L>,
 ) -> Result<(), Status>
     requires { All IsBuilt plan.now.rules }
-    ensures answer { IfSome (F.files shelf.old) (λ files. Answers (λ answer. answer ≡ followed plan.now true (bytes_of files trace_word)) (end_of result) (O.taken out.old) (O.taken out.new)) }
+    ensures answer { IfSome (F.files shelf.old) (λ files. Answers (λ reads answer. (reads ≡ place + 1) × (answer ≡ followed plan.now true (bytes_of files trace_word))) (end_of result) (O.taken out.old) (O.taken out.new)) }
     ensures reads { IfSome (F.files shelf.old) (λ files. TraceReadsTo (end_of result) files (F.asked shelf.new) (F.rest shelf.new)) }
-    ensures kinds { IsTraceEnd (end_of result) }
-    ensures read_fault { IfReadFault (end_of result) (λ place. CannotReadTrace place (F.files shelf.old) (F.faults shelf.old) (F.faults shelf.new) (F.failed shelf.new) (F.asked shelf.new)) }
+    ensures asks { IfSome (F.files shelf.old) (λ files. F.asked shelf.new ≡ Some (asked_of files trace_word)) }
+    ensures kinds { IsTraceEnd place (end_of result) }
+    ensures read_fault { IfReadFault (end_of result) (λ at. CannotReadTrace place at (F.files shelf.old) (F.faults shelf.old) (F.faults shelf.new) (F.failed shelf.new) (F.asked shelf.new)) }
     ensures write_fault { end_of result ≡ Status.WriteFault → Rose (O.faults out.old) (O.faults out.new) }
     ensures files { F.files shelf.new ≡ F.files shelf.old }
     ensures never_falls { F.faults shelf.old ≤ F.faults shelf.new }
@@ -171,7 +178,7 @@ fn follow_under<F: Shelf, O: Sink, L: Ledger>(
     match read_file(alloc, shelf, TRACE_WORD, TRACE_LIMIT) {
         Ok(bytes) => follow_trace(alloc, plan, bytes.as_slice(), out, steps),
         Err(Unread::TooLong) => Err(Status::TraceUnbuilt),
-        Err(Unread::Unreadable) => Err(Status::ReadFault(1)),
+        Err(Unread::Unreadable) => Err(Status::ReadFault(place)),
         Err(Unread::NoMemory) => Err(Status::NoMemory),
     }
 }

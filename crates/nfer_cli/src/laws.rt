@@ -1,6 +1,6 @@
 //! What holds of the definitions themselves.
 
-ghost use Rattle.std.specs.Prelude.{◌≡◌, Bool, List, Option};
+ghost use Rattle.std.specs.Prelude.{◌≡◌, ℕ, Bool, List, Option};
 ghost use Rattle.nf_core.specs.Plan.{Plan};
 ghost use Rattle.nf_io.specs.Files.{Files};
 ghost use Rattle.nf_model.specs.Changes.{no_inputs};
@@ -8,7 +8,10 @@ ghost use Rattle.nfer_cli.specs.Answers.{Answer, Defines};
 ghost use Rattle.nfer_cli.specs.Trace.{Event};
 ghost use Rattle.nfer_cli.specs.Follow.{follow_text};
 ghost use Rattle.nfer_cli.specs.Progress.{text_from};
+ghost use Rattle.nfer_cli.specs.Settled.{IsSameAnswer};
 ghost use Rattle.nfer_cli.specs.Words.{Asked};
+
+use nf_parse::every_source_is_answered;
 
 /// Following a trace by computing every prefix anew writes the same text as entering one event after the
 /// other and writing what each one changes.
@@ -17,8 +20,11 @@ pub fn follow_text_is_one_change_after_another()
 {}
 
 /// Every question has a defined answer, whatever the words and the files are, and no question has two:
-/// the answer that a call is measured by is determined by what it was given (`Defines` of specs/Answers).
+/// the answer that a call is measured by is determined by what it was given (`Defines` of specs/Answers),
+/// up to what isn't settled of a refused source (`AreAlike` of specs/Settled).
 pub fn every_question_has_one_answer()
-    ensures some { (asked : Option Asked) (files : Files) → (answer : Answer) × Defines asked files answer }
-    ensures one { (asked : Option Asked) (files : Files) (a b : Answer) → Defines asked files a → Defines asked files b → a ≡ b }
-{}
+    ensures some { (asked : Option Asked) (files : Files) → (reads : ℕ) × (answer : Answer) × Defines asked files reads answer }
+    ensures one { (asked : Option Asked) (files : Files) (m n : ℕ) (a b : Answer) → Defines asked files m a → Defines asked files n b → IsSameAnswer m a n b }
+{
+    every_source_is_answered();
+}

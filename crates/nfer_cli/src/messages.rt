@@ -1,15 +1,16 @@
 //! The one line that standard error gets.
 
-ghost use Rattle.std.specs.Prelude.{◌≤◌, flat_map, OnOk};
+ghost use Rattle.std.specs.Prelude.{◌≡◌, ◌≤◌, flat_map, OnOk};
 ghost use Rattle.nf_io.specs.Bytes.{Took};
 ghost use Rattle.nf_io.specs.Causes.{HasCause, Rose};
-ghost use Rattle.nfer_cli.specs.Messages.{message};
+ghost use Rattle.nfer_cli.specs.Messages.{message, at_line, fault_text, fault_line};
 ghost use Rattle.nfer_cli.specs.Words.{file_word};
 
 use crate::status::Status;
-use crate::words::{Command, Words};
+use crate::words::Words;
 use itoa::Buffer;
 use nf_io::{Failed, Sink, write_all};
+use nf_lex::LexFault;
 
 /// Writes the message of a status, and nothing where all is done (`message` of specs/Messages).
 /// Takes no memory. A sink that fails gets what it took before, and changes nothing else.
@@ -25,6 +26,18 @@ pub fn report<E: Sink>(err: &mut E, words: &Words, status: &Status)
         Status::Done => Ok(()),
         Status::Usage => write_texts(err, &["nfer: usage\n"]),
         Status::SpecificationTooLong => write_texts(err, &["nfer: specification too long\n"]),
+        Status::Lexical(place, fault) => write_at_line(
+            err,
+            words.file_word(*place),
+            fault_line(fault),
+            fault_text(fault),
+        ),
+        Status::Grammar(place, line) => {
+            write_at_line(err, words.file_word(*place), *line, "grammar")
+        }
+        Status::TooDeep(place, line) => {
+            write_at_line(err, words.file_word(*place), *line, "too deep")
+        }
         Status::Unbuilt => write_texts(err, &["nfer: unbuilt\n"]),
         Status::TraceUnbuilt => write_texts(err, &["nfer: unbuilt\n"]),
         Status::LineUnbuilt(line) => {
@@ -48,6 +61,47 @@ pub fn report<E: Sink>(err: &mut E, words: &Words, status: &Status)
         Status::WriteFault => write_texts(err, &["nfer: cannot write\n"]),
         Status::NoMemory => write_texts(err, &["nfer: no memory\n"]),
     };
+}
+
+// Writes a refusal at a line of a file.
+fn write_at_line<E: Sink>(err: &mut E, file: &str, line: u64, what: &str) -> Result<(), Failed>
+    ensures ok { OnOk result (Took (E.taken err.old) (E.taken err.new) (at_line file.now line what.now)) }
+    ensures cause { HasCause (E.faults err.old) (E.faults err.new) result }
+    ensures never_falls { E.faults err.old ≤ E.faults err.new }
+{
+    let mut number = Buffer::new();
+    write_texts(
+        err,
+        &["nfer: ", file, ":", number.format(line), ": ", what, "\n"],
+    )
+}
+
+// What is shown of a lexical fault.
+fn fault_text(fault: &LexFault) -> &'static str
+    ensures { result.now ≡ fault_text fault.now }
+{
+    match fault {
+        LexFault::BadByte(_) => "bad byte",
+        LexFault::BadText(_) => "bad text",
+        LexFault::OpenText(_) => "open text",
+        LexFault::OpenComment(_) => "open comment",
+        LexFault::BigNumber(_) => "big number",
+        LexFault::NoMemory => "no memory",
+    }
+}
+
+// The line of a lexical fault.
+fn fault_line(fault: &LexFault) -> u64
+    ensures { result ≡ fault_line fault.now }
+{
+    match fault {
+        LexFault::BadByte(line)
+        | LexFault::BadText(line)
+        | LexFault::OpenText(line)
+        | LexFault::OpenComment(line)
+        | LexFault::BigNumber(line) => *line,
+        LexFault::NoMemory => 0,
+    }
 }
 
 // Writes texts one after the other.

@@ -12,7 +12,7 @@ use std::sync::ledger::{Blank, Ledger};
 use std::test::Fail;
 
 // A specification and a trace, and the status, the output and the message of `follow --full`.
-static RUNS: [(&str, &str, u8, &str, &str); 22] = [
+static RUNS: [(&str, &str, u8, &str, &str); 38] = [
     ("w :- a\n", "a|1\nb|2\na|2\n", 0, "+w|1|1||\n+w|2|2||\n", ""),
     (
         "w :- a\nx :- w before b",
@@ -81,18 +81,167 @@ static RUNS: [(&str, &str, u8, &str, &str); 22] = [
     ("w :- a", "a|1\r\r\n", 3, "", "nfer: line 1: unbuilt\n"),
     ("w :- a where true", "a|1", 2, "", "nfer: unbuilt\n"),
     ("w :- a before a", "a|1", 2, "", "nfer: unbuilt\n"),
-    ("w :- begin", "a|1", 2, "", "nfer: unbuilt\n"),
     ("w :- a\na :- b", "a|1", 2, "", "nfer: unbuilt\n"),
+    ("w:-a", "a|1", 0, "+w|1|1||\n", ""),
+    (
+        " w\t:- a\r\n/* ( */ before // c\n  b x:-w -- x:-b",
+        "a|1\nb|2",
+        0,
+        "+w|1|2||\n+x|1|2||\n",
+        "",
+    ),
+    ("w :- a:a map { }", "a|1", 0, "+w|1|1||\n", ""),
+    ("w :- x:a", "a|1", 2, "", "nfer: unbuilt\n"),
+    ("w :- a map { k -> 1 }", "a|1", 2, "", "nfer: unbuilt\n"),
+    ("w :- a meet b", "a|1", 2, "", "nfer: unbuilt\n"),
+    ("w :- a unless after b", "a|1", 2, "", "nfer: unbuilt\n"),
+    ("module m { w :- a }", "a|1", 2, "", "nfer: unbuilt\n"),
+    (
+        "w :- a where a.k = \"12\"",
+        "a|1",
+        2,
+        "",
+        "nfer: s.nfer:1: bad text\n",
+    ),
+    ("w :- a $", "a|1", 2, "", "nfer: s.nfer:1: bad byte\n"),
+    (
+        "w :- a\n  where a.k = 9223372036854775808",
+        "a|1",
+        2,
+        "",
+        "nfer: s.nfer:2: big number\n",
+    ),
+    (
+        "w :- a where\n\na.k = \"x",
+        "a|1",
+        2,
+        "",
+        "nfer: s.nfer:3: open text\n",
+    ),
+    (
+        "w :- a\n/*/\n",
+        "a|1",
+        2,
+        "",
+        "nfer: s.nfer:2: open comment\n",
+    ),
+    ("w :- begin", "a|1", 2, "", "nfer: s.nfer:1: grammar\n"),
+    ("w :- a before\n", "a|1", 2, "", "nfer: s.nfer:2: grammar\n"),
+    (
+        "w :- a where ((((((((((((((((((((((((((((((((((((((((((((((((((((((((((((((((1))))))))))))))))))))))))))))))))))))))))))))))))))))))))))))))))",
+        "a|1",
+        2,
+        "",
+        "nfer: unbuilt\n",
+    ),
+    (
+        "w :- a where (((((((((((((((((((((((((((((((((((((((((((((((((((((((((((((((((1)))))))))))))))))))))))))))))))))))))))))))))))))))))))))))))))))",
+        "a|1",
+        2,
+        "",
+        "nfer: s.nfer:1: too deep\n",
+    ),
+];
+
+// The words of the specification's files, of which `s.nfer` and `t.nfer` hold these sources, and the
+// status, the output and the message of `follow --full` over three lines.
+static SEVERAL: [(&[&str], &str, &str, u8, &str, &str); 10] = [
+    (
+        &["follow", "--full", "s.nfer", "t.nfer"],
+        "w :- a",
+        "x :- w before b",
+        0,
+        "+w|1|1||\n+x|1|2||\n+w|3|3||\n",
+        "",
+    ),
+    (
+        &["follow", "--full", "t.nfer", "s.nfer", "t.nfer"],
+        "w :- a",
+        "",
+        0,
+        "+w|1|1||\n+w|3|3||\n",
+        "",
+    ),
+    (
+        &["follow", "--full", "s.nfer", "s.nfer"],
+        "w :- a",
+        "",
+        0,
+        "+w|1|1||\n+w|3|3||\n",
+        "",
+    ),
+    (
+        &["follow", "--full", "t.nfer", "s.nfer"],
+        "w :- a",
+        "x :- w before b",
+        2,
+        "",
+        "nfer: unbuilt\n",
+    ),
+    (
+        &["follow", "--full", "s.nfer", "t.nfer"],
+        "w :- a before",
+        " b",
+        2,
+        "",
+        "nfer: s.nfer:1: grammar\n",
+    ),
+    (
+        &["follow", "--full", "s.nfer", "t.nfer"],
+        "w :- a",
+        "\nx :- $",
+        2,
+        "",
+        "nfer: t.nfer:2: bad byte\n",
+    ),
+    (
+        &["follow", "--full", "s.nfer", "t.nfer"],
+        "w :-\n\n",
+        "$",
+        2,
+        "",
+        "nfer: s.nfer:3: grammar\n",
+    ),
+    (
+        &["follow", "--full", "s.nfer", "t.nfer"],
+        "module m { }",
+        "w a",
+        2,
+        "",
+        "nfer: t.nfer:1: grammar\n",
+    ),
+    (
+        &["follow", "--full", "s.nfer", "nofile", "t.nfer"],
+        "$",
+        "$",
+        4,
+        "",
+        "nfer: cannot read nofile\n",
+    ),
+    (
+        &["follow", "--full", "s.nfer", "t.nfer", "-t"],
+        "w :- a",
+        "",
+        1,
+        "",
+        "nfer: usage\n",
+    ),
 ];
 
 // Words over a shelf with one specification, and their status and message.
-static WORDS: [(&[&str], u8, &str); 9] = [
+static WORDS: [(&[&str], u8, &str); 11] = [
     (&[], 1, "nfer: usage\n"),
     (&["follow"], 1, "nfer: usage\n"),
+    (&["follow", "--full"], 1, "nfer: usage\n"),
     (&["follow", "s.nfer", "--full"], 1, "nfer: usage\n"),
     (&["follow", "--Full", "s.nfer"], 1, "nfer: usage\n"),
     (&["follow", "--full", "-"], 1, "nfer: usage\n"),
-    (&["follow", "--full", "s.nfer", "t"], 1, "nfer: usage\n"),
+    (&["follow", "--full", "s.nfer", "-"], 1, "nfer: usage\n"),
+    (
+        &["follow", "--full", "s.nfer", "t"],
+        4,
+        "nfer: cannot read t\n",
+    ),
     (&["check", "s.nfer"], 1, "nfer: usage\n"),
     (
         &["follow", "--full", "nofile"],
@@ -104,14 +253,16 @@ static WORDS: [(&[&str], u8, &str); 9] = [
 
 // The calls of the shelf, of the output and of the message that fail, 0 for none, and how a run of
 // two lines ends.
-static FAULTS: [(u64, u64, u64, u8, &str, &str); 12] = [
+static FAULTS: [(u64, u64, u64, u8, &str, &str); 14] = [
     (1, 0, 0, 4, "", "nfer: cannot read s.nfer\n"),
     (2, 0, 0, 4, "", "nfer: cannot read s.nfer\n"),
     (3, 0, 0, 4, "", "nfer: cannot read s.nfer\n"),
-    (4, 0, 0, 4, "", "nfer: cannot read -\n"),
-    (5, 0, 0, 4, "", "nfer: cannot read -\n"),
+    (4, 0, 0, 4, "", "nfer: cannot read t.nfer\n"),
+    (5, 0, 0, 4, "", "nfer: cannot read t.nfer\n"),
     (6, 0, 0, 4, "", "nfer: cannot read -\n"),
-    (7, 0, 0, 0, "+w|1|1||\n+w|2|2||\n", ""),
+    (7, 0, 0, 4, "", "nfer: cannot read -\n"),
+    (8, 0, 0, 4, "", "nfer: cannot read -\n"),
+    (9, 0, 0, 0, "+w|1|1||\n+w|2|2||\n", ""),
     (0, 1, 0, 5, "", "nfer: cannot write\n"),
     (0, 2, 0, 5, "+w|1|1||\n", "nfer: cannot write\n"),
     (0, 3, 0, 0, "+w|1|1||\n+w|2|2||\n", ""),
@@ -123,7 +274,8 @@ static FAULTS: [(u64, u64, u64, u8, &str, &str); 12] = [
 #[derive(Drop)]
 struct Given<'a> {
     words: &'a [&'a str],
-    specification: &'a [u8],
+    first: &'a [u8],
+    second: &'a [u8],
     trace: &'a [u8],
     most: usize,
     fails: (u64, u64, u64),
@@ -182,7 +334,8 @@ fn words_of(alloc: Global, texts: &[&str]) -> Result<Words, NoMemory> {
 
 fn shelf_of(alloc: Global, given: &Given<'_>) -> Result<MemShelf, NoMemory> {
     let mut files = FileMap::new(alloc);
-    files.add("s.nfer", given.specification)?;
+    files.add("s.nfer", given.first)?;
+    files.add("t.nfer", given.second)?;
     files.add("-", given.trace)?;
     Ok(MemShelf::new(files, given.most, one_call(alloc, given.fails.0)?))
 }
@@ -213,7 +366,8 @@ fn follows_traces(rt: HostRuntime) -> Result<(), Fail> {
         for most in [1, 65_536] {
             let given = Given {
                 words: &["follow", "--full", "s.nfer"],
-                specification: specification.as_bytes(),
+                first: specification.as_bytes(),
+                second: b"",
                 trace: trace.as_bytes(),
                 most,
                 fails: (0, 0, 0),
@@ -221,6 +375,18 @@ fn follows_traces(rt: HostRuntime) -> Result<(), Fail> {
             let so = ends_so(rt.alloc(), &given, *status, out.as_bytes(), err.as_bytes())?;
             assert!(rt; so, "{specification:?} over {trace:?}, {most} bytes a call");
         }
+    }
+    for (words, first, second, status, out, err) in &SEVERAL {
+        let given = Given {
+            words,
+            first: first.as_bytes(),
+            second: second.as_bytes(),
+            trace: b"a|1\nb|2\na|3\n",
+            most: 1,
+            fails: (0, 0, 0),
+        };
+        let so = ends_so(rt.alloc(), &given, *status, out.as_bytes(), err.as_bytes())?;
+        assert!(rt; so, "{first:?} and {second:?}");
     }
     Ok(())
 }
@@ -230,7 +396,8 @@ fn refuses_words(rt: HostRuntime) -> Result<(), Fail> {
     for (words, status, err) in &WORDS {
         let given = Given {
             words,
-            specification: b"w :- a",
+            first: b"w :- a",
+            second: b"",
             trace: b"a|1",
             most: 1,
             fails: (0, 0, 0),
@@ -245,8 +412,9 @@ fn refuses_words(rt: HostRuntime) -> Result<(), Fail> {
 fn tells_faults(rt: HostRuntime) -> Result<(), Fail> {
     for (shelf, output, message, status, out, err) in &FAULTS {
         let given = Given {
-            words: &["follow", "--full", "s.nfer"],
-            specification: b"w :- a\n",
+            words: &["follow", "--full", "s.nfer", "t.nfer"],
+            first: b"w :- a\n",
+            second: b"",
             trace: b"a|1\nb|2\na|2\n",
             most: 65_536,
             fails: (*shelf, *output, *message),
@@ -257,22 +425,55 @@ fn tells_faults(rt: HostRuntime) -> Result<(), Fail> {
     Ok(())
 }
 
-// The bytes of a specification, of a trace, and the status and the message where there are as many.
-static LIMITS: [(usize, usize, u8, &str); 4] = [
-    (1_048_576, 0, 0, ""),
-    (1_048_577, 0, 2, "nfer: specification too long\n"),
-    (0, 1_048_576, 0, ""),
-    (0, 1_048_577, 3, "nfer: unbuilt\n"),
+// The words, how many bytes two files of a specification and a trace have, and the status and the
+// message. The files are a comment each, and the lines of the trace are empty.
+static LIMITS: [(&[&str], usize, usize, usize, u8, &str); 6] = [
+    (&["follow", "--full", "s.nfer"], 1_048_576, 0, 0, 0, ""),
+    (
+        &["follow", "--full", "s.nfer", "nofile"],
+        1_048_577,
+        0,
+        0,
+        2,
+        "nfer: specification too long\n",
+    ),
+    (
+        &["follow", "--full", "s.nfer", "t.nfer"],
+        1_000_000,
+        48_576,
+        0,
+        0,
+        "",
+    ),
+    (
+        &["follow", "--full", "s.nfer", "t.nfer", "nofile"],
+        1_000_000,
+        48_577,
+        0,
+        2,
+        "nfer: specification too long\n",
+    ),
+    (&["follow", "--full", "s.nfer"], 0, 0, 1_048_576, 0, ""),
+    (
+        &["follow", "--full", "s.nfer"],
+        0,
+        0,
+        1_048_577,
+        3,
+        "nfer: unbuilt\n",
+    ),
 ];
 
 #[test]
 fn keeps_limits(rt: HostRuntime) -> Result<(), Fail> {
-    for (specification, trace, status, err) in &LIMITS {
-        let specification = repeated(rt.alloc(), b'\n', *specification)?;
+    for (words, first, second, trace, status, err) in &LIMITS {
+        let first = repeated(rt.alloc(), b'/', *first)?;
+        let second = repeated(rt.alloc(), b'/', *second)?;
         let trace = repeated(rt.alloc(), b'\n', *trace)?;
         let given = Given {
-            words: &["follow", "--full", "s.nfer"],
-            specification: specification.as_slice(),
+            words,
+            first: first.as_slice(),
+            second: second.as_slice(),
             trace: trace.as_slice(),
             most: 65_536,
             fails: (0, 0, 0),
@@ -292,7 +493,8 @@ static USAGE: &[u8] = b"nfer: usage\n";
 fn byte_by_byte<'a>(words: &'a [&'a str], fails: (u64, u64, u64)) -> Given<'a> {
     Given {
         words,
-        specification: b"w :- a\n",
+        first: b"w :- a\n",
+        second: b"  ",
         trace: b"a|1\nb|2\na|2\n",
         most: 1,
         fails,
@@ -306,11 +508,12 @@ fn before_call(text: &[u8], call: u64) -> &[u8] {
 
 #[test]
 fn fails_at_each_call(rt: HostRuntime) -> Result<(), Fail> {
-    for call in 1..25u64 {
-        let given = byte_by_byte(&["follow", "--full", "s.nfer"], (call, 0, 0));
+    for call in 1..29u64 {
+        let given = byte_by_byte(&["follow", "--full", "s.nfer", "t.nfer"], (call, 0, 0));
         let (status, out, err): (u8, &[u8], &[u8]) = match call {
             1..10 => (4, b"", b"nfer: cannot read s.nfer\n"),
-            10..24 => (4, b"", b"nfer: cannot read -\n"),
+            10..14 => (4, b"", b"nfer: cannot read t.nfer\n"),
+            14..28 => (4, b"", b"nfer: cannot read -\n"),
             _ => (0, TEXT, b""),
         };
         let so = ends_so(rt.alloc(), &given, status, out, err)?;

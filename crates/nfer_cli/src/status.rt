@@ -5,6 +5,8 @@ ghost use Rattle.nfer_cli.specs.Statuses.{code_of};
 ghost use Rattle.nfer_cli.specs.declared.status.Status.TheVariants.{NoMemory as no_memory};
 
 use nf_core::NoMemory;
+use nf_lex::LexFault;
+use std::alloc::AllocError;
 
 /// How a call ended. A status carries what its message shows.
 #[derive(Debug, Clone, Copy, PartialEq, Eq)]
@@ -13,8 +15,14 @@ pub enum Status {
     Done,
     /// The words are in no form.
     Usage,
-    /// The specification has more than 1,048,576 bytes.
+    /// The files of the specification have more than 1,048,576 bytes together.
     SpecificationTooLong,
+    /// The file at this place, counted from 0, of the specification's files has a lexical fault.
+    Lexical(usize, LexFault),
+    /// The file at this place isn't in the grammar. The line is counted from 1.
+    Grammar(usize, u64),
+    /// An expression in the file at this place passes a limit. The line is counted from 1.
+    TooDeep(usize, u64),
     /// The specification isn't in the form of this stage.
     Unbuilt,
     /// The trace has more than 1,048,576 bytes, which this stage can't hold.
@@ -39,7 +47,11 @@ impl Status {
         match self {
             Status::Done => 0,
             Status::Usage => 1,
-            Status::SpecificationTooLong | Status::Unbuilt => 2,
+            Status::SpecificationTooLong
+            | Status::Lexical(_, _)
+            | Status::Grammar(_, _)
+            | Status::TooDeep(_, _)
+            | Status::Unbuilt => 2,
             Status::TraceUnbuilt | Status::LineUnbuilt(_) | Status::Order { .. } => 3,
             Status::ReadFault(_) => 4,
             Status::WriteFault => 5,
@@ -52,6 +64,14 @@ impl From<NoMemory> for Status {
     ghost from_gives = { λ _ status. status ≡ no_memory };
 
     fn from(_error: NoMemory) -> Status {
+        Status::NoMemory
+    }
+}
+
+impl From<AllocError> for Status {
+    ghost from_gives = { λ _ status. status ≡ no_memory };
+
+    fn from(_error: AllocError) -> Status {
         Status::NoMemory
     }
 }

@@ -1,7 +1,8 @@
 //! The words of the command line.
 
-ghost use Rattle.std.specs.Prelude.{◌≡◌, [], ◌∷◌, ◌++◌, option_map, OnOk, OnErr};
-ghost use Rattle.nfer_cli.specs.Words.{asked, file_word, is_file_word};
+ghost use Rattle.std.specs.Prelude.{◌≡◌, [], ◌∷◌, ◌++◌, option_map, slice_index_or, OnOk, OnErr};
+ghost use Rattle.std.specs.List.{list_all};
+ghost use Rattle.nfer_cli.specs.Words.{asked, file_word, are_file_words, is_file_word, trace_word};
 ghost use Rattle.nfer_cli.specs.Commands.{asked_by};
 
 use nf_core::{NoMemory, Text};
@@ -25,8 +26,8 @@ impl Model for Words {
 /// A command with the words that it is given (`asked_by` of specs/Commands).
 #[derive(Debug, Clone, Copy)]
 pub enum Command<'a> {
-    /// Follows a trace under the specification in this file.
-    Follow(&'a str),
+    /// Follows a trace under the specification in these files.
+    Follow(&'a [Text]),
 }
 
 impl Words {
@@ -56,10 +57,10 @@ impl Words {
         ensures { option_map asked_by result ≡ asked self.now }
     {
         match self.words.as_slice() {
-            [command, option, file]
+            [command, option, files @ ..]
                 if command.as_str() == "follow"
                     && option.as_str() == "--full"
-                    && is_file_word(file.as_str()) => { Some(Command::Follow(file.as_str())) }
+                    && are_file_words(files) => { Some(Command::Follow(files)) }
             _ => None,
         }
     }
@@ -71,16 +72,47 @@ impl Words {
     pub fn file_word(&self, place: usize) -> &str
         ensures { result.now ≡ file_word self.now place }
     {
-        match (self.command(), place) {
-            (Some(Command::Follow(file)), 0) => file,
-            (Some(Command::Follow(_)), 1) => TRACE_WORD,
-            _ => "",
+        match self.command() {
+            Some(Command::Follow(files)) => file_at(files, place),
+            None => "",
         }
     }
 }
 
+// What the number of a specification's files stays below.
+const FILES_LIMIT: usize = 1 << 32;
+
 /// The word under which a command reads its trace: standard input.
 pub const TRACE_WORD: &str = "-";
+
+// The word at a place of some files and the trace behind them, and the empty text past it.
+fn file_at(files: &[Text], place: usize) -> &str
+    ensures { result.now ≡ slice_index_or (files.now ++ trace_word ∷ []) place [] }
+{
+    match files.get(place) {
+        Some(file) => file.as_str(),
+        None if place == files.len() => TRACE_WORD,
+        None => "",
+    }
+}
+
+// Whether words can be those of a specification's files: one or more, fewer than 2^32, and none
+// begins with `-`.
+fn are_file_words(files: &[Text]) -> bool
+    ensures { result ≡ are_file_words files.now }
+{
+    match files {
+        [] => false,
+        _ => files.len() < FILES_LIMIT && name_files(files),
+    }
+}
+
+// Whether each word can name a file.
+fn name_files(words: &[Text]) -> bool
+    ensures { result ≡ list_all is_file_word words.now }
+{
+    words.iter().all(|word| is_file_word(word.as_str()))
+}
 
 // Whether a word can name a file: it doesn't begin with `-`.
 fn is_file_word(word: &str) -> bool

@@ -4,7 +4,7 @@ use Rattle.nfer_cli.proofs.messages.report.Goals as goal
 
 pub returns-in-ReadFault-clause-message : goal.returns-in-ReadFault-clause-message
 unfolding message
-returns-in-ReadFault-clause-message g c = rw (c.in-ReadFault.is, ← c.file_word.ensures) (search rules)
+returns-in-ReadFault-clause-message g c = rw (c.in-ReadFault.is, ← c.file_word-in-ReadFault.ensures) (search rules)
 
 pub returns-in-WriteFault-clause-message : goal.returns-in-WriteFault-clause-message
 unfolding message

@@ -1,0 +1,80 @@
+//! The files of a specification, read in turn.
+
+ghost use Rattle.std.specs.Prelude.{◌≡◌, ◌+◌, ◌<◌, ◌≤◌, None, [], length, take, slice_index_or, IfOk, IfErr, IfSome, OnOk};
+ghost use Rattle.nf_io.specs.Causes.{Rose};
+ghost use Rattle.nf_io.specs.Files.{bytes_of, asked_of};
+ghost use Rattle.nfer_cli.specs.Answers.{StandsIn, StandsAtEnd, StandsPast, StandsAfter, CannotRead, IfReadFault, AsksWithin, piece_limit};
+ghost use Rattle.nfer_cli.specs.Results.{IsUnread};
+ghost use Rattle.nfer_cli.specs.Sources.{specification_limit, sources_of, passing};
+
+use crate::reading::{Unread, read_file};
+use crate::status::Status;
+use nf_core::{Lines, ListOf, Text};
+use nf_io::Shelf;
+use std::alloc::Global;
+
+/// The most bytes of all files of a specification together.
+const SPECIFICATION_LIMIT: usize = 1_048_576;
+
+/// The bytes of the files of a specification, read in turn (`sources_of` of specs/Sources).
+///
+/// The files are too long exactly where they have more than 1,048,576 bytes together, which is known
+/// with the file that passes that limit (`passing`): at most one piece of 65,536 bytes was read past
+/// it, and later files aren't picked. A read fault comes only where the shelf failed in this call, at
+/// its last call, and names the place, counted from 0, of the file.
+pub fn read_sources<F: Shelf>(
+    alloc: Global,
+    shelf: &mut F,
+    names: &[Text],
+) -> Result<ListOf<Lines>, Status>
+    requires { 0 < length names.now }
+    ensures files { F.files shelf.new ≡ F.files shelf.old }
+    ensures never_falls { F.faults shelf.old ≤ F.faults shelf.new }
+    ensures count { IfOk result (λ sources. length sources ≡ length names.now) }
+    ensures sources { IfOk result (λ sources. IfSome (F.files shelf.old) (λ files. sources ≡ sources_of files names.now)) }
+    ensures fits { IfOk result (λ sources. passing specification_limit sources ≡ None) }
+    ensures end { OnOk result (IfSome (F.files shelf.old) (λ files. StandsAfter names.now files (F.asked shelf.new) (F.rest shelf.new))) }
+    ensures too_long { result ≡ Err Status.SpecificationTooLong → IfSome (F.files shelf.old) (λ files. StandsPast names.now files (F.asked shelf.new) (F.rest shelf.new)) }
+    ensures read_fault { IfErr result (λ status. IfReadFault status (λ place. CannotRead names.now place (F.files shelf.old) (F.faults shelf.old) (F.faults shelf.new) (F.failed shelf.new) (F.asked shelf.new))) }
+    ensures before { IfErr result (λ status. IfReadFault status (λ place. IfSome (F.files shelf.old) (λ files. passing specification_limit (sources_of files (take place names.now)) ≡ None))) }
+    ensures kinds { IfErr result IsUnread }
+    ensures asks { IfSome (F.files shelf.old) (λ files. AsksWithin names.now files (F.asked shelf.old) (F.asked shelf.new)) }
+{
+    let mut sources = ListOf::new(alloc);
+    let mut room = SPECIFICATION_LIMIT;
+    'names: for place in 0..names.len() {
+        let source = read_source(alloc, shelf, names, place, room)?;
+        room -= source.as_slice().len();
+        sources.push(source)?;
+    }
+    Ok(sources)
+}
+
+// The bytes of the file at a place, where it has at most `room` of them.
+fn read_source<F: Shelf>(
+    alloc: Global,
+    shelf: &mut F,
+    names: &[Text],
+    place: usize,
+    room: usize,
+) -> Result<Lines, Status>
+    requires { place < length names.now }
+    ensures files { F.files shelf.new ≡ F.files shelf.old }
+    ensures never_falls { F.faults shelf.old ≤ F.faults shelf.new }
+    ensures bytes { IfOk result (λ bytes. IfSome (F.files shelf.old) (λ files. bytes ≡ bytes_of files (slice_index_or names.now place []))) }
+    ensures fits { IfOk result (λ bytes. length bytes ≤ room) }
+    ensures end { OnOk result (IfSome (F.files shelf.old) (λ files. StandsAtEnd files (slice_index_or names.now place []) (F.asked shelf.new) (F.rest shelf.new))) }
+    ensures too_long { result ≡ Err Status.SpecificationTooLong → IfSome (F.files shelf.old) (λ files. room < length (bytes_of files (slice_index_or names.now place []))) }
+    ensures stopped { result ≡ Err Status.SpecificationTooLong → IfSome (F.files shelf.old) (λ files. StandsIn files (slice_index_or names.now place []) (room + piece_limit) (F.asked shelf.new) (F.rest shelf.new)) }
+    ensures read_fault { IfErr result (λ status. IfReadFault status (λ at. CannotRead names.now at (F.files shelf.old) (F.faults shelf.old) (F.faults shelf.new) (F.failed shelf.new) (F.asked shelf.new))) }
+    ensures at { IfErr result (λ status. IfReadFault status (λ at. at ≡ place)) }
+    ensures kinds { IfErr result IsUnread }
+    ensures asked { IfSome (F.files shelf.old) (λ files. F.asked shelf.new ≡ Some (asked_of files (slice_index_or names.now place []))) }
+{
+    match read_file(alloc, shelf, names[place].as_str(), room) {
+        Ok(bytes) => Ok(bytes),
+        Err(Unread::TooLong) => Err(Status::SpecificationTooLong),
+        Err(Unread::Unreadable) => Err(Status::ReadFault(place)),
+        Err(Unread::NoMemory) => Err(Status::NoMemory),
+    }
+}
