@@ -2,7 +2,7 @@
 
 ghost use Rattle.std.specs.Prelude.{◌≡◌, ◌⊎◌, ◌≢◌, ◌↔◌, ◌≤◌, ◌<◌, ◌+◌, ℕ, List, true, IfSome, Some, None, All, length};
 ghost use Rattle.nf_io.specs.Causes.{Rose};
-ghost use Rattle.nf_io.specs.Bytes.{Took};
+ghost use Rattle.nf_io.specs.Bytes.{Took, TookPrefix};
 ghost use Rattle.nf_io.specs.Files.{bytes_of, asked_of};
 ghost use Rattle.nf_model.specs.Built.{IsBuilt};
 ghost use Rattle.nfer_cli.specs.Words.{asked, Follow, file_words, trace_word};
@@ -71,6 +71,9 @@ pub fn run<F: Shelf, O: Sink, E: Sink, L: Ledger>(
 
     // Standard error gets the message of the status and nothing else, unless it fails itself.
     ensures message { ¬ (Rose (E.faults err.old) (E.faults err.new)) → Took (E.taken err.old) (E.taken err.new) (message words.now result) }
+
+    // A sink that fails took a prefix of it.
+    ensures message_part { TookPrefix (E.taken err.old) (E.taken err.new) (message words.now result) }
 
     // Words in no form leave the shelf as it was.
     ensures untouched { result ≡ Status.Usage → F.faults shelf.new ≡ F.faults shelf.old }
