@@ -8,6 +8,7 @@ pub mod InOrder
 pub mod Joining
 pub mod Returns
 pub mod FileBytes
+pub mod Reported
 pub mod Changed
 pub mod Answered
 pub mod Order

@@ -17,7 +17,7 @@ use Rattle.nfer_cli.specs.Sources.{specification_limit, sources_of, passing, Are
 use Rattle.nfer_cli.specs.Specification.{rules_of}
 use Rattle.nfer_cli.specs.ReadPlan.{IsReadFrom}
 use Rattle.nfer_cli.specs.Parsing.{IsRefusal}
-use Rattle.nfer_cli.specs.Results.{IsUnread}
+use Rattle.nfer_cli.specs.Results.{IsUnread, IsFollowEnd}
 use Rattle.nfer_cli.specs.Words.{Asked, Follow, trace_word}
 use Rattle.nfer_cli.specs.Answers as answers
 use Rattle.nfer_cli.specs.Answers.{Answer, refusal, trace_limit, status_of, refused_at, followed, FollowDefines, too_long, unbuilt, planned, Defines, EndsFor, Wrote, Answers, IfReadFault, CannotRead, StandsPast, IsCompleteFor}
@@ -188,3 +188,8 @@ pub completes : (told : Option Files) (question : Option Asked) (s : Status) (ta
 completes None question s taken_before taken_now names before now out_before out_now failed last a read write calm out_calm = tt
 completes (Some files) question s taken_before taken_now names before now out_before out_now failed last a read write calm out_calm =
     complete_by (Defines question files) s taken_before taken_now (no_read_fault s names (Some files) before now failed last calm read) (λ is. out_calm (write is)) a
+
+-- following a trace reads no file
+pub no_fault_of_reading : (s : Status) (P : ℕ → Type 0) → IsFollowEnd s → IfReadFault s P
+no_fault_of_reading (status.ReadFault place) P kind = absurd kind
+no_fault_of_reading other P kind = tt

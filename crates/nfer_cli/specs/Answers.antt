@@ -80,6 +80,11 @@ Wrote status.WriteFault before now text = TookPart before now text
 Wrote status.NoMemory before now text = TookPrefix before now text
 Wrote result before now text = Took before now text
 
+-- a sink got a text: the whole of it unless the sink failed, and a prefix of it in any case
+pub record Reports (before now : Option (List ℕ)) (faults_before faults_now : ℕ) (text : List ℕ) : Type 0 where
+  pub whole : ¬ Rose faults_before faults_now → Took before now text
+  pub part : TookPrefix before now text
+
 -- a call answered for a defined answer: by its status, and by what was taken of its text
 pub record Answers (Defined : ℕ → Answer → Type 0) (result : Status) (before now : Option (List ℕ)) : Type 0 where
   pub reads : ℕ

@@ -2,7 +2,7 @@
 
 ghost use Rattle.std.specs.Prelude.{◌≡◌, ◌⊎◌, ◌≢◌, ◌↔◌, ◌≤◌, ◌<◌, ◌+◌, ℕ, List, true, IfSome, Some, None, All, length};
 ghost use Rattle.nf_io.specs.Causes.{Rose};
-ghost use Rattle.nf_io.specs.Bytes.{Took};
+ghost use Rattle.nf_io.specs.Bytes.{Took, TookPrefix};
 ghost use Rattle.nf_io.specs.Files.{bytes_of, asked_of};
 ghost use Rattle.nf_model.specs.Built.{IsBuilt};
 ghost use Rattle.nfer_cli.specs.Words.{asked, Follow, file_words, trace_word};
@@ -62,12 +62,18 @@ pub fn run<F: Shelf, O: Sink, E: Sink, L: Ledger>(
     ensures read_fault { IfReadFault result (λ place. CannotRead (file_words (asked words.now)) place (F.files shelf.old) (F.faults shelf.old) (F.faults shelf.new) (F.failed shelf.new) (F.asked shelf.new)) }
     ensures write_fault { result ≡ Status.WriteFault → Rose (O.faults out.old) (O.faults out.new) }
 
+    // All files are read before the first write, so at a read fault nothing was written.
+    ensures unread { IfReadFault result (λ place. O.taken out.new ≡ O.taken out.old) }
+
     // With no fault of the shelf or of the output the answer is a defined one, or want of memory.
     ensures completes { ¬ (Rose (F.faults shelf.old) (F.faults shelf.new)) → ¬ (Rose (O.faults out.old) (O.faults out.new)) →
         IfSome (F.files shelf.old) (λ files. IsCompleteFor (Defines (asked words.now) files) result) }
 
     // Standard error gets the message of the status and nothing else, unless it fails itself.
     ensures message { ¬ (Rose (E.faults err.old) (E.faults err.new)) → Took (E.taken err.old) (E.taken err.new) (message words.now result) }
+
+    // A sink that fails took a prefix of it.
+    ensures message_part { TookPrefix (E.taken err.old) (E.taken err.new) (message words.now result) }
 
     // Words in no form leave the shelf as it was.
     ensures untouched { result ≡ Status.Usage → F.faults shelf.new ≡ F.faults shelf.old }
@@ -90,6 +96,7 @@ fn carry_out<F: Shelf, O: Sink, L: Ledger>(
     ensures reads { IfSome (F.files shelf.old) (λ files. ReadsTo (asked words.now) result files (F.asked shelf.old) (F.rest shelf.old) (F.asked shelf.new) (F.rest shelf.new)) }
     ensures asks { IfSome (F.files shelf.old) (λ files. AsksWithin (file_words (asked words.now)) files (F.asked shelf.old) (F.asked shelf.new)) }
     ensures read_fault { IfReadFault result (λ place. CannotRead (file_words (asked words.now)) place (F.files shelf.old) (F.faults shelf.old) (F.faults shelf.new) (F.failed shelf.new) (F.asked shelf.new)) }
+    ensures unread { IfReadFault result (λ place. O.taken out.new ≡ O.taken out.old) }
     ensures write_fault { result ≡ Status.WriteFault → Rose (O.faults out.old) (O.faults out.new) }
     ensures untouched { result ≡ Status.Usage → F.faults shelf.new ≡ F.faults shelf.old }
 {
@@ -123,6 +130,7 @@ fn follow_files<F: Shelf, O: Sink, L: Ledger>(
     ensures asks { IfSome (F.files shelf.old) (λ told. AsksWithin (file_words (Some (Follow files.now))) told (F.asked shelf.old) (F.asked shelf.new)) }
     ensures usage { end_of result ≢ Status.Usage }
     ensures read_fault { IfReadFault (end_of result) (λ place. CannotRead (file_words (Some (Follow files.now))) place (F.files shelf.old) (F.faults shelf.old) (F.faults shelf.new) (F.failed shelf.new) (F.asked shelf.new)) }
+    ensures unread { IfReadFault (end_of result) (λ place. O.taken out.new ≡ O.taken out.old) }
     ensures write_fault { end_of result ≡ Status.WriteFault → Rose (O.faults out.old) (O.faults out.new) }
 {
     every_source_is_answered();
@@ -144,6 +152,7 @@ fn follow_sources<F: Shelf, O: Sink, L: Ledger>(
     ensures asks { IfSome (F.files shelf.old) (λ files. (F.asked shelf.new ≡ F.asked shelf.old) ⊎ (F.asked shelf.new ≡ Some (asked_of files trace_word))) }
     ensures kinds { IsSourcesEnd (end_of result) }
     ensures read_fault { IfReadFault (end_of result) (λ place. CannotReadTrace (length sources.now) place (F.files shelf.old) (F.faults shelf.old) (F.faults shelf.new) (F.failed shelf.new) (F.asked shelf.new)) }
+    ensures unread { IfReadFault (end_of result) (λ place. O.taken out.new ≡ O.taken out.old) }
     ensures write_fault { end_of result ≡ Status.WriteFault → Rose (O.faults out.old) (O.faults out.new) }
     ensures files { F.files shelf.new ≡ F.files shelf.old }
     ensures never_falls { F.faults shelf.old ≤ F.faults shelf.new }
@@ -171,6 +180,7 @@ fn follow_under<F: Shelf, O: Sink, L: Ledger>(
     ensures asks { IfSome (F.files shelf.old) (λ files. F.asked shelf.new ≡ Some (asked_of files trace_word)) }
     ensures kinds { IsTraceEnd place (end_of result) }
     ensures read_fault { IfReadFault (end_of result) (λ at. CannotReadTrace place at (F.files shelf.old) (F.faults shelf.old) (F.faults shelf.new) (F.failed shelf.new) (F.asked shelf.new)) }
+    ensures unread { IfReadFault (end_of result) (λ place. O.taken out.new ≡ O.taken out.old) }
     ensures write_fault { end_of result ≡ Status.WriteFault → Rose (O.faults out.old) (O.faults out.new) }
     ensures files { F.files shelf.new ≡ F.files shelf.old }
     ensures never_falls { F.faults shelf.old ≤ F.faults shelf.new }

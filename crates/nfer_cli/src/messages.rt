@@ -1,8 +1,7 @@
 //! The one line that standard error gets.
 
-ghost use Rattle.std.specs.Prelude.{◌≡◌, ◌≤◌, flat_map, OnOk};
-ghost use Rattle.nf_io.specs.Bytes.{Took};
-ghost use Rattle.nf_io.specs.Causes.{HasCause, Rose};
+ghost use Rattle.std.specs.Prelude.{◌≡◌, ◌≤◌, flat_map};
+ghost use Rattle.nfer_cli.specs.Answers.{Reports};
 ghost use Rattle.nfer_cli.specs.Messages.{message, at_line, fault_text, fault_line};
 ghost use Rattle.nfer_cli.specs.Words.{file_word};
 
@@ -13,10 +12,10 @@ use nf_io::{Failed, Sink, write_all};
 use nf_lex::LexFault;
 
 /// Writes the message of a status, and nothing where all is done (`message` of specs/Messages).
-/// Takes no memory. A sink that fails gets what it took before, and changes nothing else.
+/// Takes no memory. A sink that fails took a prefix of it.
 #[tactic(auto, unfolding(crate::specs::Messages::message))]
 pub fn report<E: Sink>(err: &mut E, words: &Words, status: &Status)
-    ensures message { ¬ (Rose (E.faults err.old) (E.faults err.new)) → Took (E.taken err.old) (E.taken err.new) (message words.now status.now) }
+    ensures message { Reports (E.taken err.old) (E.taken err.new) (E.faults err.old) (E.faults err.new) (message words.now status.now) }
     ensures never_falls { E.faults err.old ≤ E.faults err.new }
 {
     let mut number = Buffer::new();
@@ -65,8 +64,7 @@ pub fn report<E: Sink>(err: &mut E, words: &Words, status: &Status)
 
 // Writes a refusal at a line of a file.
 fn write_at_line<E: Sink>(err: &mut E, file: &str, line: u64, what: &str) -> Result<(), Failed>
-    ensures ok { OnOk result (Took (E.taken err.old) (E.taken err.new) (at_line file.now line what.now)) }
-    ensures cause { HasCause (E.faults err.old) (E.faults err.new) result }
+    ensures line { Reports (E.taken err.old) (E.taken err.new) (E.faults err.old) (E.faults err.new) (at_line file.now line what.now) }
     ensures never_falls { E.faults err.old ≤ E.faults err.new }
 {
     let mut number = Buffer::new();
@@ -106,8 +104,7 @@ fn fault_line(fault: &LexFault) -> u64
 
 // Writes texts one after the other.
 fn write_texts<E: Sink>(err: &mut E, texts: &[&str]) -> Result<(), Failed>
-    ensures ok { OnOk result (Took (E.taken err.old) (E.taken err.new) (flat_map (λ text. text.now) texts.now)) }
-    ensures cause { HasCause (E.faults err.old) (E.faults err.new) result }
+    ensures texts { Reports (E.taken err.old) (E.taken err.new) (E.faults err.old) (E.faults err.new) (flat_map (λ text. text.now) texts.now) }
     ensures never_falls { E.faults err.old ≤ E.faults err.new }
 {
     for text in texts {

@@ -1,0 +1,68 @@
+-- Texts that a sink got one after the other.
+use Rattle.std.proofs.Common.{◌≡◌, ℕ, ◌+◌, ◌<◌, ◌≤◌, List, [], ◌∷◌, ◌++◌, take, drop, get_or, Option, Some, None, sym, ◌∙◌, ap, append_assoc, subst, length}
+use Rattle.std.specs.Prelude.{flat_map, ℤ, codes, decimal}
+use Rattle.std.specs.Fmt.{signed_decimal}
+use Rattle.std.proofs.lemmas.List.{append-nil, take-append-drop, drop_more, take_all}
+use Rattle.std.proofs.lemmas.List.Concat.{flat_map-append}
+use Rattle.nf_io.specs.Bytes.{Took, TookPart, TookPrefix, Took-none, TookPrefix-none, TookPrefix-whole, TookPrefix-after}
+use Rattle.nf_io.specs.Causes.{Rose, later-then_Rose}
+use Rattle.nfer_cli.specs.Answers.{Reports}
+use Rattle.nfer_cli.specs.Messages.{message}
+use Rattle.nfer_cli.specs.declared.status.Status.TheVariants as status
+
+-- less than the whole is a prefix
+part_is_prefix : (before now : Option (List ℕ)) (text : List ℕ) → TookPart before now text → TookPrefix before now text
+part_is_prefix before None text p = tt
+part_is_prefix None (Some after) text p = absurd p
+part_is_prefix (Some first) (Some after) text p = (p.0, p.2)
+
+-- the whole was taken
+pub reported : (before now : Option (List ℕ)) (faults_before faults_now : ℕ) (text : List ℕ) → Took before now text → Reports before now faults_before faults_now text
+reported before now faults_before faults_now text took = record {
+  whole = λ calm. took;
+  part = subst (λ t. TookPrefix before now t) (append-nil text) (TookPrefix-whole before now text [] took);
+}
+
+-- all texts were taken
+pub texts_reported : {X : Type 0} (f : X → List ℕ) (before now : Option (List ℕ)) (faults_before faults_now place : ℕ) (texts : List X) → length texts ≤ place → Took before now (flat_map f (take place texts)) → Reports before now faults_before faults_now (flat_map f texts)
+texts_reported f before now faults_before faults_now place texts all took =
+    reported before now faults_before faults_now (flat_map f texts) (subst (λ ts. Took before now (flat_map f ts)) (take_all place texts all) took)
+
+-- the texts before a place were taken, and of that one a part, at a fault
+pub texts_stopped : {X : Type 0} (f : X → List ℕ) (first before now : Option (List ℕ)) (faults_first faults_before faults_now place : ℕ) (texts : List X) (some : X) (text : List ℕ) → place < length texts → text ≡ f (get_or texts place some)
+    → Took first before (flat_map f (take place texts)) → TookPart before now text → faults_first ≤ faults_before → Rose faults_before faults_now
+    → Reports first now faults_first faults_now (flat_map f texts)
+texts_stopped f first before now faults_first faults_before faults_now place texts some text low is took part later rose =
+    let next = get_or texts place some in
+    let after = drop (place + 1) texts in
+    let split : texts ≡ take place texts ++ next ∷ after = sym (take-append-drop place texts) ∙ ap (λ ts. take place texts ++ ts) (drop_more texts place some low) in
+    let whole : flat_map f texts ≡ flat_map f (take place texts) ++ (text ++ flat_map f after) =
+    ap (flat_map f) split ∙ flat_map-append f (take place texts) (next ∷ after) ∙ ap (λ t. flat_map f (take place texts) ++ (t ++ flat_map f after)) (sym is) in
+    record {
+      whole = λ calm. absurd (calm (later-then_Rose faults_first faults_before faults_now later rose));
+      part = subst (λ t. TookPrefix first now t) (sym whole) (TookPrefix-after first before now _ text (flat_map f after) took (part_is_prefix before now text part));
+    }
+
+-- nothing is to be taken
+pub nothing_reported : (told : Option (List ℕ)) (faults_before faults_now : ℕ) → Reports told told faults_before faults_now []
+nothing_reported told faults_before faults_now = record { whole = λ calm. Took-none told; part = TookPrefix-none told [] }
+
+-- the same text by another name
+pub same_text : (before now : Option (List ℕ)) (faults_before faults_now : ℕ) (text message : List ℕ) → text ≡ message → Reports before now faults_before faults_now text → Reports before now faults_before faults_now message
+same_text before now faults_before faults_now text message same got = subst (λ t. Reports before now faults_before faults_now t) same got
+
+-- seven texts one after the other
+seven_texts : (a b c d e f g : List ℕ) → a ++ (b ++ (c ++ (d ++ (e ++ (f ++ (g ++ [])))))) ≡ a ++ b ++ c ++ d ++ e ++ f ++ g
+seven_texts a b c d e f g = simp (append_assoc, append-nil)
+
+-- the message of a time that falls
+abbrev order_text : List ℕ → List ℕ → List ℕ → List ℕ
+order_text line found kept = codes "nfer: line " ++ line ++ codes ": time " ++ found ++ codes " after " ++ kept ++ codes "\n"
+
+-- the message of a time that falls, from its texts
+pub order_message : (words : List (List ℕ)) (line : ℕ) (kept found : ℤ) (line_text found_text kept_text : List ℕ) → line_text ≡ decimal line → found_text ≡ signed_decimal found → kept_text ≡ signed_decimal kept
+    → codes "nfer: line " ++ (line_text ++ (codes ": time " ++ (found_text ++ (codes " after " ++ (kept_text ++ (codes "\n" ++ [])))))) ≡ message words (status.Order line kept found)
+unfolding message
+order_message words line kept found line_text found_text kept_text line_is found_is kept_is =
+    seven_texts (codes "nfer: line ") line_text (codes ": time ") found_text (codes " after ") kept_text (codes "\n")
+    ∙ ap (λ t. order_text t found_text kept_text) line_is ∙ ap (λ t. order_text (decimal line) t kept_text) found_is ∙ ap (λ t. order_text (decimal line) (signed_decimal found) t) kept_is
