@@ -68,7 +68,10 @@ fn write_at_line<E: Sink>(err: &mut E, file: &str, line: u64, what: &str) -> Res
     ensures never_falls { E.faults err.old ≤ E.faults err.new }
 {
     let mut number = Buffer::new();
-    write_texts(err, &["nfer: ", file, ":", number.format(line), ": ", what, "\n"])
+    write_texts(
+        err,
+        &["nfer: ", file, ":", number.format(line), ": ", what, "\n"],
+    )
 }
 
 // What is shown of a lexical fault.

@@ -1,4 +1,4 @@
-use Rattle.std.proofs.Common.{◌≡◌, ℕ, ◌+◌, ◌-◌, ◌<◌, ◌≤◌, List, [], length, take, map, None, IfSome}
+use Rattle.std.proofs.Common.{◌≡◌, ◌+◌, ◌-◌, ◌<◌, ◌≤◌, [], length, take, map, None, IfSome}
 use Rattle.std.specs.Prelude.{sum, slice_index_or}
 use Rattle.nfer_cli.specs.Answers.{StandsAtEnd, AsksWithin}
 use Rattle.nfer_cli.specs.Sources.{specification_limit, sources_of, passing}
