@@ -1,13 +1,11 @@
 -- Files read one after the other.
-use Rattle.std.proofs.Common.{◌≡◌, ℕ, ◌+◌, ◌-◌, ◌<◌, ◌≤◌, List, [], ◌∷◌, ◌++◌, cond, length, take, drop, map, get_or, Option, Some, None, IfSome, refl, sym, ap, ◌∙◌, subst, arith, inl, inr}
-use Rattle.std.specs.Prelude.{slice_index_or}
+use Rattle.std.proofs.Common.{◌≡◌, ℕ, ◌+◌, ◌-◌, ◌<◌, ◌≤◌, List, [], ◌∷◌, ◌++◌, length, take, drop, map, get_or, Option, Some, None, IfSome, refl, sym, ap, ◌∙◌, subst, arith, inl, inr}
+use Rattle.std.specs.Prelude.{slice_index_or, sum}
 use Rattle.std.proofs.lemmas.List.{take_more, take_all, drop_more, take-append-drop, take-map, map-append}
 use Rattle.nf_io.specs.Files.{Files, bytes_of, asked_of}
-use Rattle.nfer_cli.specs.Answers.{StandsIn, StandsAtEnd, StandsPast, StandsShort, allowed_at, AsksWithin, IfReadFault, trace_limit, piece_limit}
+use Rattle.nfer_cli.specs.Answers.{StandsIn, StandsAtEnd, StandsPast, StandsAfter, AsksWithin, piece_limit}
 use Rattle.nfer_cli.specs.Sources.{specification_limit, sources_of, passing}
-use Rattle.nfer_cli.specs.declared.status.Status.{Status}
-use Rattle.nfer_cli.specs.declared.status.Status.TheVariants as status
-use Rattle.nfer_cli.proofs.Passing.{total, passing_here, is_over}
+use Rattle.nfer_cli.proofs.Passing.{total, passing_here}
 
 pub nothing_passes : (room : ℕ) (sources : List (List ℕ)) → sources ≡ [] → passing room sources ≡ None
 unfolding passing
@@ -62,29 +60,6 @@ past_here (Some files) names place left sources last rest low count room fits kn
       passes = ap (passing specification_limit) whole ∙ passing_here specification_limit left sources (sources_of files (drop (place + 1) names)) (bytes_of files name) fits room long ∙ ap Some count;
       stands = subst (λ n. StandsIn files name n last rest) most stands;
     }
-
--- what is left at a place is allowed there
-allowed_here : (files : Files) (names : List (List ℕ)) (place left : ℕ) (sources : List (List ℕ)) → place < length names → total sources + left ≡ specification_limit → sources ≡ sources_of files (take place names)
-    → left ≡ allowed_at names files place
-allowed_here files names place left sources low room known =
-    let before : total (take place (sources_of files names)) ≡ total sources = ap total (take-map (bytes_of files) place names ∙ sym known) in
-    let least : left ≡ specification_limit - total (take place (sources_of files names)) = omega arith in
-    least ∙ sym (ap (λ b. cond b (specification_limit - total (take place (sources_of files names))) trace_limit) (is_over place (length names) low))
-
--- the file at a place couldn't be read
-pub short_here : (s : Status) (told now : Option Files) (names : List (List ℕ)) (place left : ℕ) (sources : List (List ℕ)) (last rest : Option (List ℕ)) → place < length names → total sources + left ≡ specification_limit
-    → IfSome told (λ files. sources ≡ sources_of files (take place names)) → now ≡ told → IfReadFault s (λ at. at ≡ place)
-    → IfReadFault s (λ at. IfSome now (λ files. StandsShort files (slice_index_or names place []) left last rest))
-    → IfReadFault s (λ at. IfSome told (λ files. StandsShort files (slice_index_or names at []) (allowed_at names files at) last rest))
-short_here (status.ReadFault at) told now names place left sources last rest low room known same here short =
-    subst (λ n. IfSome told (λ files. StandsShort files (slice_index_or names n []) (allowed_at names files n) last rest)) (sym here)
-    (by told known (subst (λ (t : Option Files). IfSome t (λ files. StandsShort files (slice_index_or names place []) left last rest)) same short))
-  where
-    by : (t : Option Files) → IfSome t (λ files. sources ≡ sources_of files (take place names)) → IfSome t (λ files. StandsShort files (slice_index_or names place []) left last rest)
-        → IfSome t (λ files. StandsShort files (slice_index_or names place []) (allowed_at names files place) last rest)
-    by None is stands = tt
-    by (Some files) is stands = subst (λ n. StandsShort files (slice_index_or names place []) n last rest) (allowed_here files names place left sources low room is) stands
-short_here other told now names place left sources last rest low room known same here short = tt
 
 -- all files are read
 pub known_all : (told : Option Files) (names : List (List ℕ)) (place : ℕ) (sources : List (List ℕ)) → length names ≤ place → IfSome told (λ files. sources ≡ sources_of files (take place names)) → IfSome told (λ files. sources ≡ sources_of files names)

@@ -1,16 +1,16 @@
 -- Where reading stood at the end of a call, from where that of its parts stood.
-use Rattle.std.proofs.Common.{◌≡◌, ℕ, ◌-◌, ◌<◌, cond, List, [], ◌∷◌, ◌++◌, length, take, map, get_or, Option, Some, None, IfSome, refl, sym, ◌∙◌, ap, subst, arith}
+use Rattle.std.proofs.Common.{◌≡◌, ℕ, ◌+◌, ◌-◌, ◌<◌, cond, List, [], ◌∷◌, ◌++◌, length, take, map, get_or, Option, Some, None, IfSome, refl, sym, ◌∙◌, ap, subst, arith}
 use Rattle.std.specs.Prelude.{slice_index_or, sum}
-use Rattle.std.proofs.lemmas.List.{get_or_append_left}
+use Rattle.std.proofs.lemmas.List.{get_or_append_left, take-map}
 use Rattle.std.proofs.Math.Seq.{get_or-append_seam}
-use Rattle.nf_io.specs.Files.{Files}
+use Rattle.nf_io.specs.Files.{Files, bytes_of}
 use Rattle.nfer_cli.specs.Words.{trace_word}
 use Rattle.nfer_cli.specs.Answers.{trace_limit, IfReadFault, StandsShort, StandsPast, StandsAfter, allowed_at, TraceReadsTo, FollowReadsTo}
 use Rattle.nfer_cli.specs.Results.{IsTraceEnd, IsUnread}
 use Rattle.nfer_cli.specs.Sources.{specification_limit, sources_of}
 use Rattle.nfer_cli.specs.declared.status.Status.{Status}
 use Rattle.nfer_cli.specs.declared.status.Status.TheVariants as status
-use Rattle.nfer_cli.proofs.Passing.{is_within}
+use Rattle.nfer_cli.proofs.Passing.{total, is_within, is_over}
 
 -- the trace, which is the file behind the others
 short_trace : (names : List (List ℕ)) (place : ℕ) (files : Files) (last rest : Option (List ℕ)) → length names ≡ place → StandsShort files trace_word trace_limit last rest
@@ -63,3 +63,26 @@ reads_then told same names count s last_before rest_before last rest is long sta
         → IfSome t (λ files. FollowReadsTo names s files last rest)
     by None h k = tt
     by (Some files) h k = k names (sym long) h
+
+-- what is left at a place is allowed there
+allowed_here : (files : Files) (names : List (List ℕ)) (place left : ℕ) (sources : List (List ℕ)) → place < length names → total sources + left ≡ specification_limit → sources ≡ sources_of files (take place names)
+    → left ≡ allowed_at names files place
+allowed_here files names place left sources low room known =
+    let before : total (take place (sources_of files names)) ≡ total sources = ap total (take-map (bytes_of files) place names ∙ sym known) in
+    let least : left ≡ specification_limit - total (take place (sources_of files names)) = omega arith in
+    least ∙ sym (ap (λ b. cond b (specification_limit - total (take place (sources_of files names))) trace_limit) (is_over place (length names) low))
+
+-- the file at a place couldn't be read
+pub short_here : (s : Status) (told now : Option Files) (names : List (List ℕ)) (place left : ℕ) (sources : List (List ℕ)) (last rest : Option (List ℕ)) → place < length names → total sources + left ≡ specification_limit
+    → IfSome told (λ files. sources ≡ sources_of files (take place names)) → now ≡ told → IfReadFault s (λ at. at ≡ place)
+    → IfReadFault s (λ at. IfSome now (λ files. StandsShort files (slice_index_or names place []) left last rest))
+    → IfReadFault s (λ at. IfSome told (λ files. StandsShort files (slice_index_or names at []) (allowed_at names files at) last rest))
+short_here (status.ReadFault at) told now names place left sources last rest low room known same here short =
+    subst (λ n. IfSome told (λ files. StandsShort files (slice_index_or names n []) (allowed_at names files n) last rest)) (sym here)
+    (by told known (subst (λ (t : Option Files). IfSome t (λ files. StandsShort files (slice_index_or names place []) left last rest)) same short))
+  where
+    by : (t : Option Files) → IfSome t (λ files. sources ≡ sources_of files (take place names)) → IfSome t (λ files. StandsShort files (slice_index_or names place []) left last rest)
+        → IfSome t (λ files. StandsShort files (slice_index_or names place []) (allowed_at names files place) last rest)
+    by None is stands = tt
+    by (Some files) is stands = subst (λ n. StandsShort files (slice_index_or names place []) n last rest) (allowed_here files names place left sources low room is) stands
+short_here other told now names place left sources last rest low room known same here short = tt

@@ -2,7 +2,8 @@ use Rattle.std.proofs.Common.{◌≡◌, ◌+◌, ◌≤◌, length, ap, ◌∙�
 use Rattle.nf_io.specs.Files.{Files}
 use Rattle.nfer_cli.specs.Sources.{specification_limit, passing}
 use Rattle.nfer_cli.proofs.Passing.{total, total_more, passing_more}
-use Rattle.nfer_cli.proofs.FilesRead.{nothing_passes, nothing_known, nothing_asked, known_more, asked_here, ends_before, past_here, short_here}
+use Rattle.nfer_cli.proofs.FilesRead.{nothing_passes, nothing_known, nothing_asked, known_more, asked_here, ends_before, past_here}
+use Rattle.nfer_cli.proofs.ReadTo.{short_here}
 use Rattle.nfer_cli.proofs.sources.read_sources.Goals as goal
 
 pub names-init : goal.names-init
