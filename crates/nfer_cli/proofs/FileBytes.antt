@@ -1,9 +1,9 @@
 -- What was read of a file, from what was read of it piece by piece.
-use Rattle.std.proofs.Common.{◌≡◌, ℕ, ◌+◌, ◌<◌, ◌≤◌, List, [], length, drop, Option, Some, None, IfSome, refl, sym, ◌∙◌, ap, arith, length-append}
+use Rattle.std.proofs.Common.{◌≡◌, ℕ, ◌+◌, ◌<◌, ◌≤◌, List, [], length, drop, Option, Some, None, IfSome, refl, sym, ◌∙◌, ap, arith, length-append, inl, inr}
 use Rattle.std.proofs.Math.Seq.{drop-append_seam}
 use Rattle.nf_io.specs.Files.{Files, bytes_of, asked_of}
-use Rattle.nfer_cli.specs.Answers.{StandsIn, StandsAtEnd}
-use Rattle.nfer_cli.specs.Reading.{HasRead, HasEnded, HasPassed}
+use Rattle.nfer_cli.specs.Answers.{StandsIn, StandsAtEnd, StandsShort}
+use Rattle.nfer_cli.specs.Reading.{HasRead, HasEnded, HasPassed, HasStopped}
 
 -- more than some bytes were read, and at most one piece past them
 pub passed : (most piece : ℕ) (whole bytes : List ℕ) (rest : Option (List ℕ)) → HasRead whole bytes rest → most < length bytes → length bytes ≤ most + piece → HasPassed most piece whole rest
@@ -12,6 +12,14 @@ passed most piece whole bytes rest read past within = record {
   past = omega (arith, ap length read.split, length-append bytes read.left);
   within = within;
   told = read.told ∙ ap Some (sym (ap (drop (length bytes)) read.split ∙ drop-append_seam bytes read.left));
+}
+
+-- a read that fails leaves what was read
+pub stopped : (most : ℕ) (whole bytes : List ℕ) (rest now : Option (List ℕ)) → HasRead whole bytes rest → length bytes ≤ most → now ≡ rest → HasStopped most whole now
+stopped most whole bytes rest now read within stays = record {
+  read = length bytes;
+  within = within;
+  told = stays ∙ read.told ∙ ap Some (sym (ap (drop (length bytes)) read.split ∙ drop-append_seam bytes read.left));
 }
 
 -- nothing was read yet
@@ -41,3 +49,14 @@ stands_at_end (Some files) name bytes picked last now asked stays ended = record
 pub stands_in : (told : Option Files) (name : List ℕ) (most piece : ℕ) (picked last now : Option (List ℕ)) → IfSome told (λ files. picked ≡ Some (asked_of files name)) → last ≡ picked → IfSome told (λ files. HasPassed most piece (bytes_of files name) now) → IfSome told (λ files. StandsIn files name (most + piece) last now)
 stands_in None name most piece picked last now asked stays passes = tt
 stands_in (Some files) name most piece picked last now asked stays passes = record { asked_is = stays ∙ asked; read = passes.read; within = passes.within; rest_is = passes.told }
+
+pub unpicked : (told : Option Files) (name : List ℕ) (most : ℕ) (last now : Option (List ℕ)) → now ≡ None → IfSome told (λ files. StandsShort files name most last now)
+unpicked None name most last now none = tt
+unpicked (Some files) name most last now none = inl none
+
+pub stands_short : (told : Option Files) (name : List ℕ) (most : ℕ) (picked last rest now : Option (List ℕ)) → IfSome told (λ files. picked ≡ Some (asked_of files name)) → last ≡ picked → IfSome told (λ files. rest ≡ Some (bytes_of files name))
+    → ((whole : List ℕ) → HasRead whole [] rest → HasStopped most whole now) → IfSome told (λ files. StandsShort files name most last now)
+stands_short None name most picked last rest now asked stays full stops = tt
+stands_short (Some files) name most picked last rest now asked stays full stops =
+    let at : HasStopped most (bytes_of files name) now = stops _ (from_start _ _ full) in
+    inr (record { asked_is = stays ∙ asked; read = at.read; within = at.within; rest_is = at.told })

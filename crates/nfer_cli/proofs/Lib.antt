@@ -18,6 +18,7 @@ pub mod Passing
 pub mod Parsed
 pub mod FilesRead
 pub mod AskedFor
+pub mod ReadTo
 pub mod EachOnce
 pub mod RuleLevels
 pub mod NameLevels

@@ -6,7 +6,7 @@ use Rattle.nf_core.specs.declared.trees.Module.{Module}
 use Rattle.nf_io.specs.Files.{Files, bytes_of, asked_of}
 use Rattle.nf_io.specs.Causes.{Rose}
 use Rattle.nf_io.specs.Bytes.{Took, TookPart, TookPrefix}
-use Rattle.nfer_cli.specs.Words.{Asked, Follow, trace_word}
+use Rattle.nfer_cli.specs.Words.{Asked, Follow, file_words, trace_word}
 use Rattle.nf_parse.specs.declared.fault.ParseFault.{ParseFault}
 use Rattle.nf_parse.specs.declared.fault.ParseFault.TheVariants as fault
 use Rattle.nfer_cli.specs.Sources.{specification_limit, sources_of, passing, AreParsed}
@@ -117,9 +117,14 @@ pub record StandsAtEnd (files : Files) (name : List ℕ) (last rest : Option (Li
   pub asked_is : last ≡ Some (asked_of files name)
   pub rest_is : rest ≡ Some []
 
--- where reading of the trace stood at the end: it was read whole before the first write, or, where it is too long, to one piece past the limit at most
+-- the shelf stands where reading of a file failed: nothing is told to be left where the file couldn't be picked, else no more bytes than are allowed were read before the read that failed
+abbrev pub StandsShort : Files → List ℕ → ℕ → Option (List ℕ) → Option (List ℕ) → Type 0
+StandsShort files name most last rest = (rest ≡ None) ⊎ StandsIn files name most last rest
+
+-- where reading of the trace stood at the end: it was read whole before the first write, or, where it is too long, to one piece past the limit at most, or, where a read failed, within the limit
 abbrev pub TraceReadsTo : Status → Files → Option (List ℕ) → Option (List ℕ) → Type 0
 TraceReadsTo status.TraceUnbuilt files last rest = StandsIn files trace_word (trace_limit + piece_limit) last rest
+TraceReadsTo (status.ReadFault place) files last rest = StandsShort files trace_word trace_limit last rest
 TraceReadsTo status.Done files last rest = StandsAtEnd files trace_word last rest
 TraceReadsTo (status.LineUnbuilt line) files last rest = StandsAtEnd files trace_word last rest
 TraceReadsTo (status.Order line kept found) files last rest = StandsAtEnd files trace_word last rest
@@ -136,13 +141,18 @@ pub record StandsPast (names : List (List ℕ)) (files : Files) (last rest : Opt
 abbrev pub StandsAfter : List (List ℕ) → Files → Option (List ℕ) → Option (List ℕ) → Type 0
 StandsAfter names files last rest = StandsAtEnd files (slice_index_or names (length names - 1) []) last rest
 
--- where reading stood at the end: no read is made after a refusal is known, and at most one piece was read past the byte that shows it
+-- how many bytes are allowed of the command's file at a place: of a specification's file what the files before it leave of the limit, and of the trace, behind them, its own limit
+abbrev pub allowed_at : List (List ℕ) → Files → ℕ → ℕ
+allowed_at names files place = if nat_lt place (length names) then specification_limit - sum (map length (take place (sources_of files names))) else trace_limit
+
+-- where reading stood at the end: no read is made after a refusal is known, and at most one piece was read past the byte that shows it; a read fault comes only at a read of a file of which no more than the allowed bytes were read before
 abbrev pub FollowReadsTo : List (List ℕ) → Status → Files → Option (List ℕ) → Option (List ℕ) → Type 0
 FollowReadsTo names status.SpecificationTooLong files last rest = StandsPast names files last rest
 FollowReadsTo names (status.Lexical place fault) files last rest = StandsAfter names files last rest
 FollowReadsTo names (status.Grammar place line) files last rest = StandsAfter names files last rest
 FollowReadsTo names (status.TooDeep place line) files last rest = StandsAfter names files last rest
 FollowReadsTo names status.Unbuilt files last rest = StandsAfter names files last rest
+FollowReadsTo names (status.ReadFault place) files last rest = StandsShort files (slice_index_or (file_words (Some (Follow names))) place []) (allowed_at names files place) last rest
 FollowReadsTo names result files last rest = TraceReadsTo result files last rest
 
 -- where reading stood at the end of a call, by what is asked: words in no form leave the shelf as it was

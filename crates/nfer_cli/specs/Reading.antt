@@ -12,6 +12,12 @@ pub record HasEnded (whole bytes : List ℕ) (rest : Option (List ℕ)) : Type 0
   pub told : rest ≡ Some []
   pub all : bytes ≡ whole
 
+-- at most some bytes of a whole file were read
+pub record HasStopped (most : ℕ) (whole : List ℕ) (rest : Option (List ℕ)) : Type 0 where
+  pub read : ℕ
+  pub within : read ≤ most
+  pub told : rest ≡ Some (drop read whole)
+
 -- more than some bytes of a whole file were read, and at most one piece past them
 pub record HasPassed (most piece : ℕ) (whole : List ℕ) (rest : Option (List ℕ)) : Type 0 where
   pub read : ℕ

@@ -52,7 +52,8 @@ pub fn run<F: Shelf, O: Sink, E: Sink, L: Ledger>(
     // a fault or want of memory came first: then a prefix of its text was written.
     ensures answer { IfSome (F.files shelf.old) (λ files. Answers (Defines (asked words.now) files) result (O.taken out.old) (O.taken out.new)) }
 
-    // No read is made after a refusal is known, and at the end of the trace it was read whole.
+    // No read is made after a refusal is known: a read that fails comes before any byte past the
+    // allowed ones was read. At the end of the trace it was read whole.
     ensures reads { IfSome (F.files shelf.old) (λ files. ReadsTo (asked words.now) result files (F.asked shelf.old) (F.rest shelf.old) (F.asked shelf.new) (F.rest shelf.new)) }
 
     // No file is asked for but those of the command.
@@ -148,7 +149,7 @@ fn follow_sources<F: Shelf, O: Sink, L: Ledger>(
 ) -> Result<(), Status>
     requires { passing specification_limit sources.now ≡ None }
     ensures answer { IfSome (F.files shelf.old) (λ files. Answers (FollowDefines sources.now (bytes_of files trace_word)) (end_of result) (O.taken out.old) (O.taken out.new)) }
-    ensures reads { IfSome (F.files shelf.old) (λ files. (names : List (List ℕ)) → StandsAfter names files (F.asked shelf.old) (F.rest shelf.old) → FollowReadsTo names (end_of result) files (F.asked shelf.new) (F.rest shelf.new)) }
+    ensures reads { IfSome (F.files shelf.old) (λ files. (names : List (List ℕ)) → length names ≡ length sources.now → StandsAfter names files (F.asked shelf.old) (F.rest shelf.old) → FollowReadsTo names (end_of result) files (F.asked shelf.new) (F.rest shelf.new)) }
     ensures asks { IfSome (F.files shelf.old) (λ files. (F.asked shelf.new ≡ F.asked shelf.old) ⊎ (F.asked shelf.new ≡ Some (asked_of files trace_word))) }
     ensures kinds { IsSourcesEnd (end_of result) }
     ensures read_fault { IfReadFault (end_of result) (λ place. CannotReadTrace (length sources.now) place (F.files shelf.old) (F.faults shelf.old) (F.faults shelf.new) (F.failed shelf.new) (F.asked shelf.new)) }

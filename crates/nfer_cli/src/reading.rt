@@ -3,8 +3,8 @@
 ghost use Rattle.std.specs.Prelude.{◌≡◌, ◌≢◌, ◌+◌, ◌<◌, ◌≤◌, [], length, vec_len, List, ℕ, true, false, IsTrue, IfOk, IfSome, OnOk};
 ghost use Rattle.nf_io.specs.Causes.{Rose};
 ghost use Rattle.nf_io.specs.Files.{bytes_of, asked_of};
-ghost use Rattle.nfer_cli.specs.Answers.{StandsIn, StandsAtEnd};
-ghost use Rattle.nfer_cli.specs.Reading.{HasRead, HasEnded, HasPassed};
+ghost use Rattle.nfer_cli.specs.Answers.{StandsIn, StandsAtEnd, StandsShort};
+ghost use Rattle.nfer_cli.specs.Reading.{HasRead, HasEnded, HasPassed, HasStopped};
 ghost use Rattle.nfer_cli.specs.declared.reading.Unread.TheVariants.{NoMemory as no_memory, Unreadable as unreadable};
 
 use nf_core::{Lines, NoMemory};
@@ -51,9 +51,9 @@ impl From<NoMemory> for Unread {
 
 /// The bytes of a file that has at most `most` of them.
 ///
-/// Unreadable comes only where the shelf failed in this call, at its last call, and TooLong exactly
-/// where the file has more than `most` bytes; then at most one piece of 65,536 bytes was read past
-/// them.
+/// Unreadable comes only where the shelf failed in this call, at its last call, before which at most
+/// `most` bytes were read. TooLong comes exactly where the file has more than `most` bytes; then at
+/// most one piece of 65,536 bytes was read past them.
 pub fn read_file<F: Shelf>(
     alloc: Global,
     shelf: &mut F,
@@ -67,6 +67,7 @@ pub fn read_file<F: Shelf>(
     ensures end { OnOk result (IfSome (F.files shelf.old) (λ files. StandsAtEnd files name.now (F.asked shelf.new) (F.rest shelf.new))) }
     ensures too_long { result ≡ Err Unread.TooLong → IfSome (F.files shelf.old) (λ files. most < length (bytes_of files name.now)) }
     ensures stopped { result ≡ Err Unread.TooLong → IfSome (F.files shelf.old) (λ files. StandsIn files name.now (most + PIECE_LIMIT) (F.asked shelf.new) (F.rest shelf.new)) }
+    ensures unread { result ≡ Err Unread.Unreadable → IfSome (F.files shelf.old) (λ files. StandsShort files name.now most (F.asked shelf.new) (F.rest shelf.new)) }
     ensures cause { result ≡ Err Unread.Unreadable → Rose (F.faults shelf.old) (F.faults shelf.new) }
     ensures failed { result ≡ Err Unread.Unreadable → F.failed shelf.new ≡ true }
     ensures asked { IfSome (F.files shelf.old) (λ files. F.asked shelf.new ≡ Some (asked_of files name.now)) }
@@ -100,6 +101,7 @@ fn read_rest<F: Shelf>(
     ensures fits { OnOk result (length bytes.new ≤ most) }
     ensures end { OnOk result ((whole : List ℕ) → HasRead whole bytes.old (F.rest shelf.old) → HasEnded whole bytes.new (F.rest shelf.new)) }
     ensures too_long { result ≡ Err Unread.TooLong → (whole : List ℕ) → HasRead whole bytes.old (F.rest shelf.old) → HasPassed most PIECE_LIMIT whole (F.rest shelf.new) }
+    ensures unread { result ≡ Err Unread.Unreadable → (whole : List ℕ) → HasRead whole bytes.old (F.rest shelf.old) → HasStopped most whole (F.rest shelf.new) }
     ensures cause { result ≡ Err Unread.Unreadable → Rose (F.faults shelf.old) (F.faults shelf.new) }
     ensures failed { result ≡ Err Unread.Unreadable → F.failed shelf.new ≡ true }
 {
@@ -125,6 +127,7 @@ fn read_within<F: Shelf>(
     ensures reads { OnOk result ((whole : List ℕ) → HasRead whole bytes.old (F.rest shelf.old) → HasRead whole bytes.new (F.rest shelf.new)) }
     ensures end { IfOk result (λ more. more ≡ false → (whole : List ℕ) → HasRead whole bytes.old (F.rest shelf.old) → HasEnded whole bytes.new (F.rest shelf.new)) }
     ensures too_long { result ≡ Err Unread.TooLong → (whole : List ℕ) → HasRead whole bytes.old (F.rest shelf.old) → HasPassed most PIECE_LIMIT whole (F.rest shelf.new) }
+    ensures unread { result ≡ Err Unread.Unreadable → F.rest shelf.new ≡ F.rest shelf.old }
     ensures cause { result ≡ Err Unread.Unreadable → Rose (F.faults shelf.old) (F.faults shelf.new) }
     ensures failed { result ≡ Err Unread.Unreadable → F.failed shelf.new ≡ true }
 {
@@ -146,6 +149,7 @@ fn read_piece<F: Shelf>(shelf: &mut F, buffer: &mut [u8], bytes: &mut Lines) -> 
     ensures reads { OnOk result ((whole : List ℕ) → HasRead whole bytes.old (F.rest shelf.old) → HasRead whole bytes.new (F.rest shelf.new)) }
     ensures end { IfOk result (λ more. more ≡ false → (whole : List ℕ) → HasRead whole bytes.old (F.rest shelf.old) → HasEnded whole bytes.new (F.rest shelf.new)) }
     ensures within { result ≢ Err Unread.TooLong }
+    ensures unread { result ≡ Err Unread.Unreadable → F.rest shelf.new ≡ F.rest shelf.old }
     ensures cause { result ≡ Err Unread.Unreadable → Rose (F.faults shelf.old) (F.faults shelf.new) }
     ensures failed { result ≡ Err Unread.Unreadable → F.failed shelf.new ≡ true }
 {

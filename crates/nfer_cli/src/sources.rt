@@ -3,7 +3,7 @@
 ghost use Rattle.std.specs.Prelude.{◌≡◌, ◌+◌, ◌<◌, ◌≤◌, None, [], length, take, slice_index_or, IfOk, IfErr, IfSome, OnOk};
 ghost use Rattle.nf_io.specs.Causes.{Rose};
 ghost use Rattle.nf_io.specs.Files.{bytes_of, asked_of};
-ghost use Rattle.nfer_cli.specs.Answers.{StandsIn, StandsAtEnd, StandsPast, StandsAfter, CannotRead, IfReadFault, AsksWithin, piece_limit};
+ghost use Rattle.nfer_cli.specs.Answers.{StandsIn, StandsAtEnd, StandsPast, StandsAfter, StandsShort, allowed_at, CannotRead, IfReadFault, AsksWithin, piece_limit};
 ghost use Rattle.nfer_cli.specs.Results.{IsUnread};
 ghost use Rattle.nfer_cli.specs.Sources.{specification_limit, sources_of, passing};
 
@@ -21,7 +21,8 @@ const SPECIFICATION_LIMIT: usize = 1_048_576;
 /// The files are too long exactly where they have more than 1,048,576 bytes together, which is known
 /// with the file that passes that limit (`passing`): at most one piece of 65,536 bytes was read past
 /// it, and later files aren't picked. A read fault comes only where the shelf failed in this call, at
-/// its last call, and names the place, counted from 0, of the file.
+/// its last call, before which the limit wasn't passed, and names the place, counted from 0, of the
+/// file.
 pub fn read_sources<F: Shelf>(
     alloc: Global,
     shelf: &mut F,
@@ -36,6 +37,7 @@ pub fn read_sources<F: Shelf>(
     ensures end { OnOk result (IfSome (F.files shelf.old) (λ files. StandsAfter names.now files (F.asked shelf.new) (F.rest shelf.new))) }
     ensures too_long { result ≡ Err Status.SpecificationTooLong → IfSome (F.files shelf.old) (λ files. StandsPast names.now files (F.asked shelf.new) (F.rest shelf.new)) }
     ensures read_fault { IfErr result (λ status. IfReadFault status (λ place. CannotRead names.now place (F.files shelf.old) (F.faults shelf.old) (F.faults shelf.new) (F.failed shelf.new) (F.asked shelf.new))) }
+    ensures unread { IfErr result (λ status. IfReadFault status (λ place. IfSome (F.files shelf.old) (λ files. StandsShort files (slice_index_or names.now place []) (allowed_at names.now files place) (F.asked shelf.new) (F.rest shelf.new)))) }
     ensures before { IfErr result (λ status. IfReadFault status (λ place. IfSome (F.files shelf.old) (λ files. passing specification_limit (sources_of files (take place names.now)) ≡ None))) }
     ensures kinds { IfErr result IsUnread }
     ensures asks { IfSome (F.files shelf.old) (λ files. AsksWithin names.now files (F.asked shelf.old) (F.asked shelf.new)) }
@@ -67,6 +69,7 @@ fn read_source<F: Shelf>(
     ensures too_long { result ≡ Err Status.SpecificationTooLong → IfSome (F.files shelf.old) (λ files. room < length (bytes_of files (slice_index_or names.now place []))) }
     ensures stopped { result ≡ Err Status.SpecificationTooLong → IfSome (F.files shelf.old) (λ files. StandsIn files (slice_index_or names.now place []) (room + piece_limit) (F.asked shelf.new) (F.rest shelf.new)) }
     ensures read_fault { IfErr result (λ status. IfReadFault status (λ at. CannotRead names.now at (F.files shelf.old) (F.faults shelf.old) (F.faults shelf.new) (F.failed shelf.new) (F.asked shelf.new))) }
+    ensures unread { IfErr result (λ status. IfReadFault status (λ at. IfSome (F.files shelf.old) (λ files. StandsShort files (slice_index_or names.now place []) room (F.asked shelf.new) (F.rest shelf.new)))) }
     ensures at { IfErr result (λ status. IfReadFault status (λ at. at ≡ place)) }
     ensures kinds { IfErr result IsUnread }
     ensures asked { IfSome (F.files shelf.old) (λ files. F.asked shelf.new ≡ Some (asked_of files (slice_index_or names.now place []))) }

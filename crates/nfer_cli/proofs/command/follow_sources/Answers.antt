@@ -4,6 +4,7 @@ use Rattle.nfer_cli.specs.ReadPlan.{IsReadFrom}
 use Rattle.nfer_cli.specs.Sources.{specification_limit, AreParsed}
 use Rattle.nfer_cli.specs.Specification.{rules_of}
 use Rattle.nfer_cli.proofs.Passing.{total_within}
+use Rattle.nfer_cli.proofs.ReadTo.{reads_trace}
 use Rattle.nfer_cli.proofs.Whole.{answers_planned, answers_refused, answers_unbuilt, answers_no_memory}
 use Rattle.nfer_cli.proofs.command.follow_sources.Goals as goal
 
@@ -31,3 +32,6 @@ pub returns-in-None-clause-answer : goal.returns-in-None-clause-answer
 returns-in-None-clause-answer g c =
     let none : rules_of c.in_ok-modules.modules.items ≡ None = search rules in
     answers_unbuilt _ c.args.sources.now c.in_ok-modules.modules.items _ c.requires c.in_ok-modules.ensures.parsed none
+
+pub returns-in-Some-clause-reads : goal.returns-in-Some-clause-reads
+returns-in-Some-clause-reads g c = reads_trace _ _ _ _ _ _ _ _ (search rules) c.follow_under.ensures.kinds c.follow_under.ensures.reads

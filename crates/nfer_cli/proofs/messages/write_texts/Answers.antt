@@ -1,4 +1,3 @@
-use Rattle.std.proofs.Common.{rules, arith}
 use Rattle.nfer_cli.proofs.Reported.{texts_reported, texts_stopped}
 use Rattle.nfer_cli.proofs.messages.write_texts.Goals as goal
 

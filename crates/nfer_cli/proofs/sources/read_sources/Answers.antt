@@ -3,6 +3,7 @@ use Rattle.nf_io.specs.Files.{Files}
 use Rattle.nfer_cli.specs.Sources.{specification_limit, passing}
 use Rattle.nfer_cli.proofs.Passing.{total, total_more, passing_more}
 use Rattle.nfer_cli.proofs.FilesRead.{nothing_passes, nothing_known, nothing_asked, known_more, asked_here, ends_before, past_here}
+use Rattle.nfer_cli.proofs.ReadTo.{short_here}
 use Rattle.nfer_cli.proofs.sources.read_sources.Goals as goal
 
 pub names-init : goal.names-init
@@ -43,3 +44,9 @@ returns-in_err-source-clause-too_long g c = λ is.
     past_here (g.F.Shelf.files c.args.shelf.now) c.args.names.now c.names.place c.names.room c.names.sources _ _
     c.names-test.true c.names.invariant.count c.names.invariant.room c.names.invariant.fits c.names.invariant.known
     (told _ (c.read_source.ensures.too_long (search rules))) (told _ (c.read_source.ensures.stopped (search rules)))
+
+pub returns-in_err-source-clause-unread : goal.returns-in_err-source-clause-unread
+returns-in_err-source-clause-unread g c =
+    let short = short_here c.in_err-source.field-0.0 (g.F.Shelf.files c.args.shelf.now) (g.F.Shelf.files c.names.shelf) c.args.names.now c.names.place c.names.room c.names.sources (g.F.Shelf.asked c.read_source.new.shelf) (g.F.Shelf.rest c.read_source.new.shelf)
+    c.names-test.true c.names.invariant.room c.names.invariant.known c.names.invariant.files c.in_err-source.ensures.at c.in_err-source.ensures.unread in
+    search (rules, short)
