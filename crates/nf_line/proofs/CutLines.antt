@@ -13,7 +13,7 @@ use Rattle.nf_line.specs.Line.{line, line_within, Faulty, Long}
 use Rattle.nf_line.specs.Cutting.{Content, Run, start, after_call, after_long, has_feed, before_feed, is_long, used_of, line_of, content_after, last_line, HasCut, IsLongBehind}
 use Rattle.nf_line.proofs.Feeds.{none_before, place_found}
 use Rattle.nf_line.proofs.Returns.{one_shorter}
-use Rattle.nf_line.proofs.Cuts.{parts_of, with_some_last, last_piece, cut_is, some_last-append, long_last-append, goes_on, kept_no_feed, first_part}
+use Rattle.nf_line.proofs.Cuts.{parts_of, with_some_last, last_piece, cut_is, some_last-append, long_last-append, long_last-append_more, long_stays, goes_on, kept_no_feed, first_part}
 
 -- before the first call
 pub at_start : HasCut [] [] []
@@ -165,9 +165,16 @@ long_first : (first : List ℕ) (others : List (List ℕ)) → 0 < length first 
 long_first first [] h = let e = ne_eqb (length first) 0 (λ e. absurd (omega arith)) in ([], rw e refl)
 long_first first (next ∷ others) h = (with_some_last (next ∷ others), refl)
 
-pub long_piece : (bytes : List ℕ) (lines : List (List ℕ)) (content : Content) (piece more : List ℕ) (so_far : HasCut bytes lines content.kept) → content.was_long ≡ false → is_long content piece ≡ true
-    → IsLongBehind so_far.pieces (cut (bytes ++ piece ++ more))
-long_piece bytes lines content piece more so_far short long =
+-- the parts of all bytes, where the kept bytes and a piece make a line too long
+record HasLongPart (pieces parts : List (List ℕ)) : Type 0 where
+  first : List ℕ
+  others : List (List ℕ)
+  beyond : line_limit < length first
+  are : parts ≡ pieces ++ first ∷ others
+
+long_part : (bytes : List ℕ) (lines : List (List ℕ)) (content : Content) (piece more : List ℕ) (so_far : HasCut bytes lines content.kept) → content.was_long ≡ false → is_long content piece ≡ true
+    → HasLongPart so_far.pieces (parts_of (bytes ++ piece ++ more))
+long_part bytes lines content piece more so_far short long =
     let before = before_feed piece in
     let rest = drop (position_or_len (λ byte. eqb byte 10) piece) piece in
     let kept_none = kept_no_feed bytes so_far.pieces content.kept so_far.bytes_are in
@@ -178,14 +185,35 @@ long_piece bytes lines content piece more so_far short long =
     ap (λ given. content.kept ++ (given ++ more)) (sym (take-append-drop (position_or_len (λ byte. eqb byte 10) piece) piece))
     ∙ ap (λ given. content.kept ++ given) (append_assoc before rest more) ∙ sym (append_assoc content.kept before (rest ++ more)) in
     let first = first_part (content.kept ++ before) (rest ++ more) both_none in
-    let some : 0 < length first.first = omega (arith, first.longer, length-append content.kept before) in
-    let behind = long_first first.first first.others some in
     record {
-      piece = first.first;
-      others = behind.0;
+      first = first.first;
+      others = first.others;
       beyond = omega (arith, first.longer, length-append content.kept before);
-      all_are =
-          ap cut (append_assoc bytes piece more) ∙ cut_is (bytes ++ (piece ++ more))
-          ∙ ap with_some_last (goes_on (piece ++ more) bytes so_far.pieces content.kept so_far.bytes_are ∙ ap (λ parts. so_far.pieces ++ parts) (ap parts_of text ∙ first.are))
-          ∙ some_last-append so_far.pieces first.first first.others ∙ ap (λ parts. so_far.pieces ++ parts) behind.1;
+      are =
+          ap parts_of (append_assoc bytes piece more)
+          ∙ goes_on (piece ++ more) bytes so_far.pieces content.kept so_far.bytes_are ∙ ap (λ parts. so_far.pieces ++ parts) (ap parts_of text ∙ first.are);
+    }
+
+pub long_piece : (bytes : List ℕ) (lines : List (List ℕ)) (content : Content) (piece more : List ℕ) (so_far : HasCut bytes lines content.kept) → content.was_long ≡ false → is_long content piece ≡ true
+    → IsLongBehind so_far.pieces (cut (bytes ++ piece ++ more))
+long_piece bytes lines content piece more so_far short long =
+    let part = long_part bytes lines content piece more so_far short long in
+    let behind = long_first part.first part.others (omega (arith, part.beyond)) in
+    record {
+      piece = part.first;
+      others = behind.0;
+      beyond = part.beyond;
+      all_are = cut_is (bytes ++ piece ++ more) ∙ ap with_some_last part.are ∙ some_last-append so_far.pieces part.first part.others ∙ ap (λ parts. so_far.pieces ++ parts) behind.1;
+    }
+
+pub long_piece_broken_off : (bytes : List ℕ) (lines : List (List ℕ)) (content : Content) (piece more : List ℕ) (so_far : HasCut bytes lines content.kept) → content.was_long ≡ false → is_long content piece ≡ true
+    → IsLongBehind so_far.pieces (cut_off (bytes ++ piece ++ more))
+long_piece_broken_off bytes lines content piece more so_far short long =
+    let part = long_part bytes lines content piece more so_far short long in
+    let behind = long_stays part.first part.others part.beyond in
+    record {
+      piece = part.first;
+      others = behind.0;
+      beyond = part.beyond;
+      all_are = ap with_long_last part.are ∙ long_last-append_more so_far.pieces part.first part.others ∙ ap (λ parts. so_far.pieces ++ parts) behind.1;
     }

@@ -1,7 +1,7 @@
 -- Bytes between their LF bytes, and the cut of them.
-use Rattle.std.proofs.Common.{◌≡◌, ◌≢◌, ℕ, ◌≤◌, Bool, true, false, cond, not, eqb, List, [], ◌∷◌, ◌++◌, length, refl, sym, ap, ◌∙◌, arith, ⊎_elim}
+use Rattle.std.proofs.Common.{◌≡◌, ◌<◌, ◌≢◌, ℕ, ◌≤◌, Bool, true, false, cond, not, eqb, List, [], ◌∷◌, ◌++◌, length, refl, sym, ap, ◌∙◌, arith, ⊎_elim}
 use Rattle.std.specs.List.{list_any, list_all, onto_first}
-use Rattle.std.proofs.lemmas.Bool.{or_parts, and_parts, ne_eqb, le-ltb, not-true, cases_Bool}
+use Rattle.std.proofs.lemmas.Bool.{or_parts, and_parts, ne_eqb, lt-ltb, le-ltb, not-true, cases_Bool}
 use Rattle.nf_text.specs.Fields.{fields_of}
 use Rattle.nf_line.specs.Lines.{cut, line_limit, with_long_last}
 use Rattle.nf_line.specs.Cutting.{has_feed}
@@ -67,6 +67,18 @@ unfolding with_long_last
 long_last-append [] kept h = let e = le-ltb line_limit (length kept) h in rw e refl
 long_last-append (piece ∷ []) kept h = let e = le-ltb line_limit (length kept) h in rw e refl
 long_last-append (piece ∷ next ∷ pieces) kept h = ap {B = List (List ℕ)} (λ rest. piece ∷ rest) (long_last-append (next ∷ pieces) kept h)
+
+pub long_last-append_more : (pieces : List (List ℕ)) (part : List ℕ) (parts : List (List ℕ)) → with_long_last (pieces ++ part ∷ parts) ≡ pieces ++ with_long_last (part ∷ parts)
+unfolding with_long_last
+long_last-append_more [] part parts = refl
+long_last-append_more (piece ∷ []) part parts = refl
+long_last-append_more (piece ∷ next ∷ pieces) part parts = ap {B = List (List ℕ)} (λ rest. piece ∷ rest) (long_last-append_more (next ∷ pieces) part parts)
+
+-- a part that is too long stays, also as the last one
+pub long_stays : (part : List ℕ) (parts : List (List ℕ)) → line_limit < length part → (rest : List (List ℕ)) × (with_long_last (part ∷ parts) ≡ part ∷ rest)
+unfolding with_long_last
+long_stays part [] h = let e = lt-ltb line_limit (length part) h in ([], rw e refl)
+long_stays part (next ∷ parts) h = (with_long_last (next ∷ parts), refl)
 
 -- what stands behind goes on from the last part
 no_more : (pieces : List (List ℕ)) (kept : List ℕ) → [] ≢ pieces ++ kept ∷ []

@@ -28,7 +28,9 @@ pub fn lines_mean_their_pieces()
 {}
 
 /// Where a piece makes a line too long, the piece of the cut that stands behind those of the lines
-/// handed out is longer than a line may be, whatever comes behind.
+/// handed out is longer than a line may be, whatever comes behind, also where the bytes are broken
+/// off there.
 pub fn long_lines_are_long_pieces()
-    ensures { (bytes : List ℕ) (lines : List (List ℕ)) (content : Content) (piece more : List ℕ) (cut_so_far : HasCut bytes lines content.kept) → content.was_long ≡ false → is_long content piece ≡ true → IsLongBehind cut_so_far.pieces (cut (bytes ++ piece ++ more)) }
+    ensures whole { (bytes : List ℕ) (lines : List (List ℕ)) (content : Content) (piece more : List ℕ) (cut_so_far : HasCut bytes lines content.kept) → content.was_long ≡ false → is_long content piece ≡ true → IsLongBehind cut_so_far.pieces (cut (bytes ++ piece ++ more)) }
+    ensures broken_off { (bytes : List ℕ) (lines : List (List ℕ)) (content : Content) (piece more : List ℕ) (cut_so_far : HasCut bytes lines content.kept) → content.was_long ≡ false → is_long content piece ≡ true → IsLongBehind cut_so_far.pieces (cut_off (bytes ++ piece ++ more)) }
 {}

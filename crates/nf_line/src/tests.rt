@@ -1,9 +1,12 @@
 //! Lines by hand, in every cutting into two pieces and byte by byte, and the longest ones.
 
+ghost use Rattle.std.specs.Prelude.{◌≡◌, [], None, IfOk};
+ghost use Rattle.nf_core.specs.Example.{example_rules, example_levels, atom_of};
+ghost use Rattle.nf_core.specs.declared.trees.Rule.{Rule};
 ghost use Rattle.nf_line.specs.Cutting.{CanBeRead};
 
 use super::*;
-use nf_core::{NoMemory, Text, Value};
+use nf_core::{Atom, Body, EntryList, Levels, NoMemory, Op, Plan, Rule, RuleList, Text, Value};
 use std::alloc::{AllocError, Global};
 use std::test::Fail;
 
@@ -210,5 +213,78 @@ fn makes_cells_of_last_pairs(rt: HostRuntime) -> Result<(), Fail> {
         None => false,
     };
     assert!(rt; has_cells);
+    Ok(())
+}
+
+fn atom(alloc: Global, name: &str) -> Result<Atom, NoMemory>
+    ensures { IfOk result (λ atom. atom ≡ atom_of name.now) }
+{
+    Ok(Atom {
+        label: Text::new(alloc, name)?,
+        name: Text::new(alloc, name)?,
+    })
+}
+
+fn rule(alloc: Global, head: &str, body: Body) -> Result<Rule, NoMemory>
+    ensures { IfOk result (λ rule. rule ≡ record { head = head.now; body = body; filter = None; entries = []; start = None; stop = None }) }
+{
+    Ok(Rule {
+        head: Text::new(alloc, head)?,
+        body,
+        filter: None,
+        entries: EntryList::new(alloc),
+        start: None,
+        stop: None,
+    })
+}
+
+/// The rules `w :- a` and `x :- w before b`.
+fn rules(alloc: Global) -> Result<RuleList, NoMemory>
+    ensures { IfOk result (λ rules. rules ≡ example_rules) }
+{
+    let mut rules = RuleList::new(alloc);
+    let body = Body::One(atom(alloc, "a")?);
+    rules.push(rule(alloc, "w", body)?)?;
+    let body = Body::Pair(atom(alloc, "w")?, Op::Before, atom(alloc, "b")?);
+    rules.push(rule(alloc, "x", body)?)?;
+    Ok(rules)
+}
+
+fn levels(alloc: Global) -> Result<Levels, NoMemory>
+    ensures { IfOk result (λ levels. levels ≡ example_levels) }
+{
+    let mut levels = Levels::new(alloc);
+    levels.add("w", 1)?;
+    levels.add("a", 0)?;
+    levels.add("x", 2)?;
+    levels.add("b", 0)?;
+    Ok(levels)
+}
+
+fn plan(alloc: Global) -> Result<Plan, NoMemory> {
+    Plan::build(alloc, &rules(alloc)?, &levels(alloc)?)
+}
+
+/// Whether the row of a name without keys has no cells.
+fn has_no_cells(alloc: Global, plan: &Plan, line: &[u8]) -> Result<bool, Fail>
+    requires { CanBeRead line.now }
+{
+    if line.is_empty() || plan.names() != 4 {
+        return Ok(false);
+    }
+    let row = RawLine::read(line)?.row(alloc, plan, 1)?;
+    Ok(row.len() == 0)
+}
+
+#[test]
+fn makes_a_row(rt: HostRuntime) -> Result<(), Fail> {
+    let alloc = rt.alloc();
+    let plan = plan(alloc)?;
+    let mut liner = Liner::new(alloc);
+    let has_no_cells = match liner.next_line(b"a|4|k|1\n")?.line {
+        Some(line) => has_no_cells(alloc, &plan, line)?,
+        None => false,
+    };
+    assert!(rt; has_no_cells);
     Ok(())
 }

@@ -1,5 +1,8 @@
-use Rattle.nf_line.proofs.CutLines.{long_piece}
+use Rattle.nf_line.proofs.CutLines.{long_piece, long_piece_broken_off}
 use Rattle.nf_line.proofs.laws.long_lines_are_long_pieces.Goals as goal
 
-pub returns : goal.returns
-returns c = long_piece
+pub returns-clause-whole : goal.returns-clause-whole
+returns-clause-whole c = long_piece
+
+pub returns-clause-broken_off : goal.returns-clause-broken_off
+returns-clause-broken_off c = long_piece_broken_off
