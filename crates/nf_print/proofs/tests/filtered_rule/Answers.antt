@@ -3,7 +3,6 @@ use Rattle.nf_core.specs.Trees.{tree, IsWithinLimits}
 use Rattle.nf_core.specs.declared.trees.Expr.{Expr}
 use Rattle.nf_core.specs.declared.trees.Entry.{Entry}
 use Rattle.nf_print.proofs.Examples.{filtered_within}
-use Rattle.nf_print.specs.Example.{filter}
 use Rattle.nf_print.proofs.tests.filtered_rule.Goals as goal
 
 abbrev Within : Expr → List Entry → Type 0
