@@ -8,3 +8,4 @@ pub mod ReadRule
 pub mod Line
 pub mod Worked
 pub mod Examples
+pub mod FirstRules

@@ -10,6 +10,8 @@ mod expressions;
 mod laws;
 mod printing;
 #[cfg(test)]
+mod round_trips;
+#[cfg(test)]
 mod tests;
 mod words;
 
