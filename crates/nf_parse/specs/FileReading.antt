@@ -1,11 +1,10 @@
 -- What the reader answers of the tokens of a source.
-use Rattle.std.specs.Prelude.{◌≡◌, List, Result, Ok, Err}
+use Rattle.std.specs.Prelude.{◌≡◌, ℕ, List, Result, Ok, Err}
 use Rattle.nf_core.specs.declared.trees.Module.{Module}
 use Rattle.nf_lex.specs.declared.token.Token.{Token}
 use Rattle.nf_parse.specs.declared.fault.Fault.TheVariants as stop
 use Rattle.nf_parse.specs.declared.fault.ParseFault.{ParseFault}
 use Rattle.nf_parse.specs.declared.fault.ParseFault.TheVariants as fault
-use Rattle.std.specs.Prelude.{ℕ}
 use Rattle.nf_parse.specs.State.{State, state, words_of}
 use Rattle.nf_parse.specs.Answers.{most_operators}
 use Rattle.nf_parse.specs.Parses.{line_left}

@@ -25,8 +25,9 @@ const MOST_OPERATORS: usize = 256;
 
 /// The modules of `source`, in order, by the grammar of specifications (`Spells` in specs/Answers.antt,
 /// over `File` in specs/Grammar.antt). `Lex` comes exactly where the source has no tokens, `Grammar` only
-/// where its tokens are no specification whatever the limits are, `TooDeep` only where an expression
-/// passes a limit, each with a line counted from 1; `NoMemory` where no memory was left. After an
+/// where its tokens are no specification whatever the limits are, `TooDeep` only where they are none within
+/// the limits and a limit is passed among them, each with a line counted from 1, that of the token where
+/// the reader stopped or of the end of the source; `NoMemory` where no memory was left. After an
 /// error nothing is left of the modules. The source is read in one pass over its tokens, and nothing of
 /// it is copied before a tree holds it.
 pub fn parse(alloc: Global, source: &[u8]) -> Result<ModuleList, ParseFault>
