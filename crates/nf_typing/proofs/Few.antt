@@ -1,12 +1,12 @@
 -- A rule whose expressions have few operators is within the limits.
-use Rattle.std.proofs.Common.{◌≡◌, ℕ, ◌+◌, ◌≤◌, max, Bool, true, false, ◌&&◌, nat_le, List, [], ◌∷◌, ◌++◌, map, Option, Some, None, option_to_list, All, refl, arith, rules}
+use Rattle.std.proofs.Common.{◌≡◌, ℕ, ◌+◌, ◌-◌, ◌/◌, ◌<◌, ◌≤◌, max, Bool, true, false, ◌&&◌, nat_lt, List, [], ◌∷◌, ◌++◌, map, Option, Some, None, option_to_list, All, refl, arith, rules}
 use Rattle.std.proofs.lemmas.List.Elements.{All-nil, All-cons, All-append}
 use Rattle.std.specs.List.{list_all}
 use Rattle.nf_core.specs.Trees as of
 use Rattle.nf_core.specs.Trees.{Tree, tree, opened, operand_in_parens, left_in_parens, right_in_parens, operators, open_parens, IsWithinLimits}
 use Rattle.nf_core.specs.declared.trees.Expr.{Expr}
 use Rattle.nf_core.specs.declared.trees.Entry.{Entry}
-use Rattle.nf_typing.specs.Small.{is_small, is_small_clause, are_small}
+use Rattle.nf_typing.specs.Small.{is_few, is_small, is_small_clause, are_small}
 
 opened_more : (b : Bool) (n m : ℕ) → n ≤ m → opened b n ≤ 1 + m
 opened_more true n m h = omega arith
@@ -32,19 +32,43 @@ few_parens (of.Bin o a b) = either_more (opened (left_in_parens o a) (open_paren
 abbrev Within : Expr → Type 0
 Within x = IsWithinLimits (tree x)
 
-at_most : (m : ℕ) → nat_le m 64 ≡ true → m ≤ 64
-at_most m h = search rules
+both : (a b : Bool) → (a && b) ≡ true → (a ≡ true) × (b ≡ true)
+both true b h = (refl, h)
+both false b h = absurd cc
+
+three : (a b c : Bool) → (a && b && c) ≡ true → (a ≡ true) × (b ≡ true) × (c ≡ true)
+three true true true h = (refl, refl, refl)
+three true true false h = absurd cc
+three true false c h = absurd cc
+three false b c h = absurd cc
+
+some : (n : ℕ) → nat_lt 0 n ≡ true → 0 < n
+some n h = search rules
+
+one_more : (n m : ℕ) → 0 < n → m ≤ n - 1 → 1 + m ≤ n
+one_more n m g h = omega arith
+
+shared : (n l m : ℕ) → 0 < n → l ≤ (n - 1) / 2 → m ≤ (n - 1) / 2 → 1 + l + m ≤ n
+shared n l m g h k = omega arith
+
+few : (n : ℕ) (t : Tree) → is_few n t ≡ true → operators t ≤ n
+unfolding operators is_few
+few n (of.Bool b) h = omega arith
+few n (of.Int i) h = omega arith
+few n (of.Text t) h = omega arith
+few n (of.Start label) h = omega arith
+few n (of.Stop label) h = omega arith
+few n (of.Key label key) h = omega arith
+few n (of.Neg a) h = let parts = both _ _ h in one_more n (operators a) (some n parts.0) (few (n - 1) a parts.1)
+few n (of.Not a) h = let parts = both _ _ h in one_more n (operators a) (some n parts.0) (few (n - 1) a parts.1)
+few n (of.Bin o a b) h = let parts = three _ _ _ h in shared n (operators a) (operators b) (some n parts.0) (few ((n - 1) / 2) a parts.1) (few ((n - 1) / 2) b parts.2)
 
 within : (x : Expr) → is_small x ≡ true → Within x
-within x h = let few = at_most (operators (tree x)) h in let parens = few_parens (tree x) in record { few_operators = omega (arith, few); few_parens = omega (arith, few, parens) }
+within x h = let at_most = few 64 (tree x) h in let parens = few_parens (tree x) in record { few_operators = omega (arith, at_most); few_parens = omega (arith, at_most, parens) }
 
 clause_within : (o : Option Expr) → is_small_clause o ≡ true → All Within (option_to_list o)
 clause_within None h = All-nil Within
 clause_within (Some x) h = All-cons Within x [] (within x h) (All-nil Within)
-
-both : (a b : Bool) → (a && b) ≡ true → (a ≡ true) × (b ≡ true)
-both true b h = (refl, h)
-both false b h = absurd cc
 
 entries_within : (entries : List Entry) → list_all (λ (entry : Entry). is_small entry.value) entries ≡ true → All Within (map (λ (entry : Entry). entry.value) entries)
 entries_within [] h = All-nil Within

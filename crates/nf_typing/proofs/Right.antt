@@ -174,17 +174,21 @@ module _ (b : Body) where
   unfolding entries_fault IsDistinct
   right_entries earlier [] h = refl
   right_entries earlier (x ∷ xs) h =
-      none_first (key_fault earlier x ∷ clause_fault b clause.Entry x.value ∷ entries_fault b (earlier ++ x ∷ []) xs ∷ [])
-        (right_key earlier x h.apart.0, (right_clause b clause.Entry x.value h.values.0,
-          (right_entries (earlier ++ x ∷ []) xs (record { apart = joined earlier x xs h.apart.1 (key_by x xs h.distinct.0); distinct = h.distinct.1; values = h.values.1 }), tt)))
+      none_first (key_fault earlier x ∷ clause_fault b clause.Entry x.value ∷ entries_fault b (earlier ++ x ∷ []) xs ∷ []) (
+        right_key earlier x h.apart.0,
+        (
+          right_clause b clause.Entry x.value h.values.0,
+          (right_entries (earlier ++ x ∷ []) xs (record { apart = joined earlier x xs h.apart.1 (key_by x xs h.distinct.0); distinct = h.distinct.1; values = h.values.1 }), tt),
+        ),
+      )
 
 abbrev parts_of : Rule → List (Option KindFault)
 parts_of rule = label_fault rule.body
-  ∷ optional_fault rule.body clause.Filter rule.filter
-  ∷ entries_fault rule.body [] rule.entries
-  ∷ optional_fault rule.body clause.Start rule.start
-  ∷ optional_fault rule.body clause.Stop rule.stop
-  ∷ []
+    ∷ optional_fault rule.body clause.Filter rule.filter
+    ∷ entries_fault rule.body [] rule.entries
+    ∷ optional_fault rule.body clause.Start rule.start
+    ∷ optional_fault rule.body clause.Stop rule.stop
+    ∷ []
 
 rule_right : (rule : Rule) → fault_of rule ≡ None → AreKindsRight rule
 unfolding fault_of
@@ -197,16 +201,24 @@ rule_right rule h =
       keys = entries.distinct;
       entries = All-from_recursion (IsValue rule.body) rule.entries entries.values;
       start = optional_right rule.body clause.Start rule.start parts.1.1.1.0;
-      stop = optional_right rule.body clause.Stop rule.stop parts.1.1.1.1.0 }
+      stop = optional_right rule.body clause.Stop rule.stop parts.1.1.1.1.0;
+    }
 
 right_rule : (rule : Rule) → AreKindsRight rule → fault_of rule ≡ None
 unfolding fault_of
-right_rule rule h = none_first (parts_of rule)
-    (right_labels rule.body h.labels,
-    (right_optional rule.body clause.Filter rule.filter h.filter,
-    (right_entries rule.body [] rule.entries (record { apart = apart_none rule.entries; distinct = h.keys; values = recursion_from_All (IsValue rule.body) rule.entries h.entries }),
-    (right_optional rule.body clause.Start rule.start h.start,
-    (right_optional rule.body clause.Stop rule.stop h.stop, tt)))))
+right_rule rule h = none_first (parts_of rule) (
+  right_labels rule.body h.labels,
+  (
+    right_optional rule.body clause.Filter rule.filter h.filter,
+    (
+      right_entries rule.body [] rule.entries (record { apart = apart_none rule.entries; distinct = h.keys; values = recursion_from_All (IsValue rule.body) rule.entries h.entries }),
+      (
+        right_optional rule.body clause.Start rule.start h.start,
+        (right_optional rule.body clause.Stop rule.stop h.stop, tt),
+      ),
+    ),
+  ),
+)
 
 accepted : (r : Result (Unit {0}) KindFault) → is_ok r ≡ true → result_err r ≡ None
 accepted (Ok x) h = refl

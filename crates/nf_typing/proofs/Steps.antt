@@ -44,8 +44,10 @@ module _ (b : Body) (entries : List Entry) (whole : Option KindFault) where
       ∙ (λ j. first (entry_fault b (take i entries) x ∷ entries_fault b (front j) (rest j) ∷ []))
 
   pub goes_on : (i : ℕ) (x : Entry) → i < length entries → x ≡ get_or entries i x → IsFrom b entries whole i → None ≡ entry_fault b (take i entries) x → IsFrom b entries whole (i + 1)
-  goes_on i x h e so_far none = record { same =
-      at_entry i x h e so_far ∙ ap (λ o. first (o ∷ entries_fault b (take (i + 1) entries) (drop (i + 1) entries) ∷ [])) (sym none) ∙ first_alone _ }
+  goes_on i x h e so_far none = record {
+    same =
+        at_entry i x h e so_far ∙ ap (λ o. first (o ∷ entries_fault b (take (i + 1) entries) (drop (i + 1) entries) ∷ [])) (sym none) ∙ first_alone _;
+  }
 
   pub fails : (i : ℕ) (x : Entry) (fault : KindFault) → i < length entries → x ≡ get_or entries i x → IsFrom b entries whole i → Some fault ≡ entry_fault b (take i entries) x → Some fault ≡ whole
   fails i x fault h e so_far some = sym (at_entry i x h e so_far ∙ ap (λ o. first (o ∷ entries_fault b (take (i + 1) entries) (drop (i + 1) entries) ∷ [])) (sym some))

@@ -109,8 +109,8 @@ entries_fault body earlier (entry ∷ later) = first (key_fault earlier entry �
 unfoldable pub fault_of : Rule → Option KindFault
 fault_of rule = first (
     label_fault rule.body
-  ∷ optional_fault rule.body clause.Filter rule.filter
-  ∷ entries_fault rule.body [] rule.entries
-  ∷ optional_fault rule.body clause.Start rule.start
-  ∷ optional_fault rule.body clause.Stop rule.stop
-  ∷ [])
+    ∷ optional_fault rule.body clause.Filter rule.filter
+    ∷ entries_fault rule.body [] rule.entries
+    ∷ optional_fault rule.body clause.Start rule.start
+    ∷ optional_fault rule.body clause.Stop rule.stop
+    ∷ [])

@@ -1,13 +1,21 @@
 -- Rules whose expressions have few operators, as those of tests.
-use Rattle.std.specs.Prelude.{Bool, true, ◌&&◌, nat_le, List, Option, Some, None}
+use Rattle.std.specs.Prelude.{ℕ, ◌-◌, ◌/◌, Bool, true, ◌&&◌, nat_lt, List, Option, Some, None}
 use Rattle.std.specs.List.{list_all}
-use Rattle.nf_core.specs.Trees.{tree, operators}
+use Rattle.nf_core.specs.Trees as of
+use Rattle.nf_core.specs.Trees.{Tree, tree}
 use Rattle.nf_core.specs.declared.trees.Expr.{Expr}
 use Rattle.nf_core.specs.declared.trees.Entry.{Entry}
 
--- an expression with at most 64 operators
+-- an expression whose operator is one of at most so many, and whose operands have at most an equal share of the others each
+unfoldable pub is_few : ℕ → Tree → Bool
+is_few n (of.Neg a) = nat_lt 0 n && is_few (n - 1) a
+is_few n (of.Not a) = nat_lt 0 n && is_few (n - 1) a
+is_few n (of.Bin o a b) = nat_lt 0 n && is_few ((n - 1) / 2) a && is_few ((n - 1) / 2) b
+is_few n other = true
+
+-- an expression with at most 64 operators, so shared
 abbrev pub is_small : Expr → Bool
-is_small x = nat_le (operators (tree x)) 64
+is_small x = is_few 64 (tree x)
 
 -- a clause with such an expression, or none
 abbrev pub is_small_clause : Option Expr → Bool

@@ -3,10 +3,11 @@
 
 ghost use Rattle.std.specs.Prelude.{◌≡◌, IsTrue};
 ghost use Rattle.std.specs.List.{list_all};
-ghost use Rattle.nf_core.specs.Trees.{tree, operators};
+ghost use Rattle.nf_core.specs.Trees.{tree};
 ghost use Rattle.nf_core.specs.declared.trees.Entry.{Entry as EntryOf};
-ghost use Rattle.nf_typing.specs.Small.{is_small, is_small_clause, are_small};
+ghost use Rattle.nf_typing.specs.Small.{is_few, is_small, is_small_clause, are_small};
 
+use crate::fault::KindFault;
 use crate::rules::check_rule;
 use nf_core::{Atom, BinOp, Body, Entry, EntryList, Expr, NoMemory, Op, Rule, Text, Xop};
 use sqlite_items::Boxed;
@@ -52,8 +53,22 @@ static RULES: [(&str, &str, &str, &str, &str, &str); 47] = [
     ("a unless after b", "", "", "", "", "accepted"),
     ("a before b", "a.k b.k =", "", "", "", "accepted"),
     ("a before b", "", "k b.k", "b.begin", "b.end", "accepted"),
-    ("a unless after b", "a.k b.k =", "k a.k", "a.k", "a.k", "accepted"),
-    ("a", "a.k", "k a.k, l true, m 1, n \"x\"", "a.k", "a.k", "accepted"),
+    (
+        "a unless after b",
+        "a.k b.k =",
+        "k a.k",
+        "a.k",
+        "a.k",
+        "accepted",
+    ),
+    (
+        "a",
+        "a.k",
+        "k a.k, l true, m 1, n \"x\"",
+        "a.k",
+        "a.k",
+        "accepted",
+    ),
     ("a", "a.k !", "k 1, l 1", "a.k neg", "7", "accepted"),
     // Two faults, and the one that comes first.
     ("a before a", "c.k", "", "", "", "same label"),
@@ -72,9 +87,30 @@ static RULES: [(&str, &str, &str, &str, &str, &str); 47] = [
     ("a", "c.k \"x\" +", "", "", "", "unknown label"),
     ("a", "c.k \"x\" = neg", "", "", "", "unknown label"),
     ("a", "c.k 1 + !", "", "", "", "unknown label"),
-    ("a unless after b", "", "k b.k c.k +", "", "", "second label"),
-    ("a unless after b", "", "k c.k b.k +", "", "", "unknown label"),
-    ("a unless after b", "", "k b.k true + neg", "", "", "second label"),
+    (
+        "a unless after b",
+        "",
+        "k b.k c.k +",
+        "",
+        "",
+        "second label",
+    ),
+    (
+        "a unless after b",
+        "",
+        "k c.k b.k +",
+        "",
+        "",
+        "unknown label",
+    ),
+    (
+        "a unless after b",
+        "",
+        "k b.k true + neg",
+        "",
+        "",
+        "second label",
+    ),
 ];
 
 // An operand of each kind: Any, Truth, Number and Text.
@@ -103,7 +139,11 @@ fn first_faults(rt: HostRuntime) -> Result<(), Fail> {
     let alloc = rt.alloc();
     for (body, filter, map, start, stop, wanted) in &RULES {
         let found = fault_shown(alloc, body, filter, map, start, stop)?;
-        assert_eq!(rt; found.as_str(), *wanted, "{body} where {filter} map {map} begin {start} end {stop}");
+        assert_eq!(rt;
+            found.as_str(),
+            *wanted,
+            "{body} where {filter} map {map} begin {start} end {stop}"
+        );
     }
     Ok(())
 }
@@ -116,7 +156,14 @@ fn operators_over_every_pair_of_kinds(rt: HostRuntime) -> Result<(), Fail> {
             let mut found = String::new(alloc);
             for right in &OPERANDS {
                 let entry = format!(in alloc; "k {left} {right} {op}")?;
-                found.push_str(mark(fault_shown(alloc, "a", "", entry.as_str(), "", "")?.as_str()))?;
+                found.push_str(mark(fault_shown(
+                    alloc,
+                    "a",
+                    "",
+                    entry.as_str(),
+                    "",
+                    "",
+                )?.as_str()))?;
             }
             assert_eq!(rt; found.as_str(), *wanted, "{left} {op}");
         }
@@ -154,23 +201,35 @@ fn fault_shown(
         start: expr_of(alloc, start)?,
         stop: expr_of(alloc, stop)?,
     };
-    part_fault_shown(alloc, parts)
+    let head = Text::new(alloc, "w")?;
+    Ok(answer_shown(alloc, answer(parts, head))?)
 }
 
-// The fault of the rule of these parts, which must have few operators.
-fn part_fault_shown(alloc: Global, parts: Parts) -> Result<String, NoMemory> {
-    if !are_small(&parts.filter, &parts.entries, &parts.start, &parts.stop) {
-        return Ok(String::from_str(alloc, "many operators")?);
+fn answer_shown(
+    alloc: Global,
+    answer: Option<Result<(), KindFault>>,
+) -> Result<String, AllocError> {
+    match answer {
+        Some(Ok(())) => String::from_str(alloc, "accepted"),
+        Some(Err(fault)) => format!(in alloc; "{fault}"),
+        None => String::from_str(alloc, "many operators"),
     }
-    let rule = rule_of(parts, Text::new(alloc, "w")?);
-    Ok(answer_shown(alloc, &rule)?)
 }
 
-fn answer_shown(alloc: Global, rule: &Rule) -> Result<String, AllocError> {
-    match check_rule(rule) {
-        Ok(()) => String::from_str(alloc, "accepted"),
-        Err(fault) => format!(in alloc; "{fault}"),
+// What is answered of the rule of these parts. None where they have many operators.
+fn answer(parts: Parts, head: Text) -> Option<Result<(), KindFault>> {
+    if is_small_rule(&parts) {
+        let rule = rule_of(parts, head);
+        Some(check_rule(&rule))
+    } else {
+        None
     }
+}
+
+fn is_small_rule(parts: &Parts) -> bool
+    ensures { result ≡ are_small parts.now.filter parts.now.entries parts.now.start parts.now.stop }
+{
+    are_small(&parts.filter, &parts.entries, &parts.start, &parts.stop)
 }
 
 // A rule of these parts.
@@ -194,7 +253,7 @@ fn rule_of(parts: Parts, head: Text) -> Rule
     }
 }
 
-// Whether each expression has at most 64 operators.
+// Whether each expression has few operators.
 fn are_small(
     filter: &Option<Expr>,
     entries: &EntryList,
@@ -203,8 +262,22 @@ fn are_small(
 ) -> bool
     ensures { result ≡ are_small filter.now entries.now start.now stop.now }
 {
-    let all = entries.as_slice().iter().all(|entry| is_small(&entry.value));
-    is_small_clause(filter) && all && is_small_clause(start) && is_small_clause(stop)
+    if !is_small_clause(filter) || !are_small_entries(entries) {
+        return false;
+    }
+    if !is_small_clause(start) {
+        return false;
+    }
+    is_small_clause(stop)
+}
+
+fn are_small_entries(entries: &EntryList) -> bool
+    ensures { result ≡ list_all (λ (entry : EntryOf). is_small entry.value) entries.now }
+{
+    entries
+        .as_slice()
+        .iter()
+        .all(|entry| is_small(&entry.value))
 }
 
 fn is_small_clause(expr: &Option<Expr>) -> bool
@@ -219,17 +292,21 @@ fn is_small_clause(expr: &Option<Expr>) -> bool
 fn is_small(expr: &Expr) -> bool
     ensures { result ≡ is_small expr.now }
 {
-    operators_of(expr) <= 64
+    is_few(expr, 64)
 }
 
-#[tactic(auto, unfolding(nf_core::specs::Trees::operators))]
-fn operators_of(expr: &Expr) -> u64
-    ensures { result ≡ operators (tree expr.now) }
+// Whether the operator of an expression is one of so many, and each operand has at most an equal share
+// of the others.
+#[tactic(auto, unfolding(crate::specs::Small::is_few))]
+fn is_few(expr: &Expr, most: u64) -> bool
+    ensures { result ≡ is_few most (tree expr.now) }
 {
     match expr {
-        Expr::Neg(operand) | Expr::Not(operand) => 1 + operators_of(operand.get()),
-        Expr::Bin(_, left, right) => 1 + operators_of(left.get()) + operators_of(right.get()),
-        _ => 0,
+        Expr::Neg(operand) | Expr::Not(operand) => most > 0 && is_few(operand.get(), most - 1),
+        Expr::Bin(_, left, right) => {
+            most > 0 && is_few(left.get(), (most - 1) / 2) && is_few(right.get(), (most - 1) / 2)
+        }
+        _ => true,
     }
 }
 
