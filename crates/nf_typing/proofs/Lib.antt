@@ -1,4 +1,3 @@
 pub mod Agree
 pub mod Right
 pub mod Steps
-pub mod Few
