@@ -1,0 +1,91 @@
+//! The kinds of expressions, or their first faults.
+
+ghost use Rattle.std.specs.Prelude.{◌≡◌};
+ghost use Rattle.std.specs.Result.{result_err, result_map_both};
+ghost use Rattle.nf_core.specs.Kinds.{labels_of};
+ghost use Rattle.nf_core.specs.Trees.{tree};
+ghost use Rattle.nf_typing.specs.Meant.{kind_meant};
+ghost use Rattle.nf_typing.specs.Faults as spec;
+
+use crate::clause::Clause;
+use crate::fault::KindFault;
+use crate::kind::{Kind, fits, gives, takes};
+use crate::labels::check_read;
+use nf_core::{BinOp, Body, Expr};
+
+/// The first fault of a clause of a rule with this body (`clause_fault` of specs/Faults).
+#[tactic(auto, unfolding(crate::specs::Faults::clause_fault, crate::specs::Faults::kind_fault))]
+pub(crate) fn check_clause(body: &Body, clause: Clause, expr: &Expr) -> Result<(), KindFault>
+    ensures { result_err result ≡ spec.clause_fault body.now clause expr.now }
+{
+    let kind = checked(body, clause, expr)?;
+    if !fits(clause, kind) {
+        return Err(KindFault::WrongKind);
+    }
+    Ok(())
+}
+
+// The kind of an expression of a clause, or its first fault: operands before their operator, and left
+// before right. It calls itself for each operand, so it stands as many calls deep as the expression has
+// nodes on a way down, which is at most one more than it has operators: at most 257 calls in a rule.
+#[tactic(auto, unfolding(crate::specs::Faults::checked, crate::specs::Faults::checked_read, crate::specs::Faults::checked_negated, crate::specs::Faults::checked_inverted, crate::specs::Faults::checked_binary))]
+fn checked(body: &Body, clause: Clause, expr: &Expr) -> Result<Kind, KindFault>
+    ensures { result_map_both kind_meant (λ fault. fault) result ≡ spec.checked (spec.readable_in clause body.now) (labels_of body.now) (tree expr.now) }
+{
+    match expr {
+        Expr::Bool(_) => Ok(Kind::Truth),
+        Expr::Int(_) => Ok(Kind::Number),
+        Expr::Text(_) => Ok(Kind::Text),
+        Expr::Start(label) | Expr::Stop(label) => {
+            check_read(body, clause, label)?;
+            Ok(Kind::Number)
+        }
+        Expr::Key(label, _) => {
+            check_read(body, clause, label)?;
+            Ok(Kind::Any)
+        }
+        Expr::Neg(operand) => negated(checked(body, clause, operand.get())?),
+        Expr::Not(operand) => inverted(checked(body, clause, operand.get())?),
+        Expr::Bin(op, left, right) => {
+            let left = checked(body, clause, left.get())?;
+            let right = checked(body, clause, right.get())?;
+            binary(*op, left, right)
+        }
+    }
+}
+
+// Unary `-` over an operand of this kind.
+#[tactic(auto, unfolding(crate::specs::Faults::checked_negated))]
+fn negated(operand: Kind) -> Result<Kind, KindFault>
+    ensures { result_map_both kind_meant (λ fault. fault) result ≡ spec.checked_negated (Ok (kind_meant operand)) }
+{
+    if operand.may_be_number() {
+        Ok(Kind::Number)
+    } else {
+        Err(KindFault::WrongKind)
+    }
+}
+
+// `!` over an operand of this kind.
+#[tactic(auto, unfolding(crate::specs::Faults::checked_inverted))]
+fn inverted(operand: Kind) -> Result<Kind, KindFault>
+    ensures { result_map_both kind_meant (λ fault. fault) result ≡ spec.checked_inverted (Ok (kind_meant operand)) }
+{
+    if operand.may_be_truth() {
+        Ok(Kind::Truth)
+    } else {
+        Err(KindFault::WrongKind)
+    }
+}
+
+// An operator over two operands of these kinds.
+#[tactic(auto, unfolding(crate::specs::Faults::checked_binary))]
+fn binary(op: BinOp, left: Kind, right: Kind) -> Result<Kind, KindFault>
+    ensures { result_map_both kind_meant (λ fault. fault) result ≡ spec.checked_binary op (Ok (kind_meant left)) (Ok (kind_meant right)) }
+{
+    if takes(op, left) && takes(op, right) {
+        Ok(gives(op))
+    } else {
+        Err(KindFault::WrongKind)
+    }
+}
