@@ -35,10 +35,22 @@ static RULES: [(&str, &str); 47] = [
     ("w :- a before b", "accepted"),
     ("w :- a unless after b", "accepted"),
     ("w :- a before b where a.k = b.k", "accepted"),
-    ("w :- a before b map { k -> b.k } begin b.begin end b.end", "accepted"),
-    ("w :- a unless after b where a.k = b.k map { k -> a.k } begin a.k end a.k", "accepted"),
-    ("w :- a where a.k map { k -> a.k, l -> true, m -> 1, n -> \"x\" } begin a.k end a.k", "accepted"),
-    ("w :- a where !a.k map { k -> 1, l -> 1 } begin -a.k end 7", "accepted"),
+    (
+        "w :- a before b map { k -> b.k } begin b.begin end b.end",
+        "accepted",
+    ),
+    (
+        "w :- a unless after b where a.k = b.k map { k -> a.k } begin a.k end a.k",
+        "accepted",
+    ),
+    (
+        "w :- a where a.k map { k -> a.k, l -> true, m -> 1, n -> \"x\" } begin a.k end a.k",
+        "accepted",
+    ),
+    (
+        "w :- a where !a.k map { k -> 1, l -> 1 } begin -a.k end 7",
+        "accepted",
+    ),
     // Two faults, and the one that comes first.
     ("w :- a before a where c.k", "same label"),
     ("w :- a where c.k + 1", "unknown label"),
@@ -56,9 +68,18 @@ static RULES: [(&str, &str); 47] = [
     ("w :- a where c.k + \"x\"", "unknown label"),
     ("w :- a where -(c.k = \"x\")", "unknown label"),
     ("w :- a where !(c.k + 1)", "unknown label"),
-    ("w :- a unless after b map { k -> b.k + c.k }", "second label"),
-    ("w :- a unless after b map { k -> c.k + b.k }", "unknown label"),
-    ("w :- a unless after b map { k -> -(b.k + true) }", "second label"),
+    (
+        "w :- a unless after b map { k -> b.k + c.k }",
+        "second label",
+    ),
+    (
+        "w :- a unless after b map { k -> c.k + b.k }",
+        "unknown label",
+    ),
+    (
+        "w :- a unless after b map { k -> -(b.k + true) }",
+        "second label",
+    ),
 ];
 
 // An operand of each kind: Any, Truth, Number and Text.
