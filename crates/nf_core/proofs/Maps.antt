@@ -1,8 +1,9 @@
 -- Searches in a list whose items, or keys, are mapped.
-use Rattle.std.proofs.Common.{◌≡◌, Bool, true, false, cond, List, [], ◌∷◌, map, position, refl, ap, Some, ◌||◌, ◌+◌, not}
-use Rattle.std.specs.List.{list_any, prefix_len, AllZip}
+use Rattle.std.proofs.Common.{◌≡◌, ◌≤◌, Bool, true, false, cond, List, [], ◌∷◌, length, map, position, unwrap_or, nat_lt, refl, ap, Some, None, ◌||◌, ◌+◌, not, rules, arith}
+use Rattle.std.specs.List.{list_any, prefix_len, position_or_len, AllZip}
 use Rattle.std.specs.Map.{lookup}
 use Rattle.std.proofs.lemmas.List.{length-map, map_push}
+use Rattle.std.proofs.lemmas.List.Sums.{prefix_len-le-length}
 use Rattle.indexmap.specs.IndexSet.{insert_key}
 
 -- two tests that agree pass the same lists
@@ -41,3 +42,14 @@ module _ {X Y : Type 0} (f : X → Y) where
   map-from_clones [] (y ∷ ys) h = elim h [ ]
   map-from_clones (x ∷ xs) [] h = elim h [ ]
   map-from_clones (x ∷ xs) (y ∷ ys) h = λ i. h.0 i ∷ map-from_clones xs ys h.1 i
+
+-- the place that a search finds, or the length where it finds none
+pub position-or_len : {X : Type 0} (test : X → Bool) (xs : List X) → unwrap_or (position test xs) (length xs) ≡ position_or_len test xs
+position-or_len test xs = by (nat_lt (position_or_len test xs) (length xs)) refl
+  where
+    by : (b : Bool) → nat_lt (position_or_len test xs) (length xs) ≡ b → unwrap_or (cond b (Some (position_or_len test xs)) None) (length xs) ≡ position_or_len test xs
+    by true e = refl
+    by false e =
+        let most : position_or_len test xs ≤ length xs = prefix_len-le-length (λ x. not (test x)) xs in
+        let least : length xs ≤ position_or_len test xs = search (rules, e) in
+        omega (arith, most, least)

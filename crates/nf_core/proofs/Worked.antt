@@ -1,17 +1,18 @@
 -- The definitions computed on worked cases. What is expected was worked out by hand from the rules.
-use Rattle.std.specs.Prelude.{◌≡◌, refl, ℕ, zero, suc, ◌<◌, All, IsTrue, ℤ, pos, negsuc, Bool, true, false, List, [], ◌∷◌, map, Option, Some, None, codes}
+use Rattle.std.specs.Prelude.{◌≡◌, refl, ℕ, zero, suc, ◌<◌, nat_lt, slice_index, All, IsTrue, ℤ, pos, negsuc, Bool, true, false, List, [], ◌∷◌, map, Option, Some, None, codes}
 use Rattle.std.specs.List.{range_with_len, IsDistinct}
 use Rattle.std.specs.List.Sorted.{IsStrictlySortedBy}
 use mathlib.Core.Path.{sym, ap, ◌∙◌}
 use Rattle.nf_core.specs.Intervals.{Interval, is_strictly_inside}
 use Rattle.nf_core.specs.Sets.{once}
 use Rattle.nf_core.specs.Relations.{holds, span, blocks}
-use Rattle.nf_core.specs.Texts.{int_least, int_greatest}
-use Rattle.nf_core.specs.Expressions.{value_of, value_of_node, binary, negated, inverted, of_ints, of_bools, in_range, member}
+use Rattle.nf_core.specs.Texts.{int_least, int_greatest, IsPlain}
+use Rattle.nf_core.specs.Expressions.{reads_within, reads_within_node, operators_of, operators_of_node, texts_of, texts_at_node, value_of, value_of_node, binary, negated, inverted, of_ints, of_bools, in_range, member}
 use Rattle.nf_core.specs.Identifiers.{is_identifier, has_name_form, keywords}
 use Rattle.std.proofs.Common.{arith, rules}
 use Rattle.std.proofs.lemmas.List.Elements.{All-nil, All-from_recursion}
-use Rattle.nf_core.specs.Plan.{Plan, IsPlan, AreKeys, IsRuleOf, level_of, level_by_rules}
+use Rattle.nf_core.specs.Kinds.{kind_of_term, kind_of_node, kind_of_binary, is_condition}
+use Rattle.nf_core.specs.Plan.{Plan, IsPlan, AreKeys, IsTermOver, IsEntryOf, IsRuleOf, body_names, result_names, widths_of_names, level_of, level_by_rules}
 use Rattle.nf_core.specs.Trees as tree
 use Rattle.nf_core.specs.Trees.{Tree, operators, open_parens, level, op_level, left_in_parens, right_in_parens, operand_in_parens}
 use Rattle.nf_core.specs.Written.{names_of, keys_read, keys_at_node, keys_of_name, term_of, term_at_node, plan_of, Levels, IsLevelOf, AreLevels}
@@ -23,62 +24,47 @@ use Rattle.nf_core.specs.declared.operators.Xop.{Xop}
 use Rattle.nf_core.specs.declared.operators.Xop.TheVariants.{After, Follow, Contain}
 use Rattle.nf_core.specs.declared.operators.BinOp.{BinOp}
 use Rattle.nf_core.specs.declared.operators.BinOp.TheVariants as op
-use Rattle.nf_core.specs.declared.terms.Term.{Term, Term-F, fold-Term, fold-roll-Term}
-use Rattle.nf_core.specs.declared.terms.Term.TheOpen as n
+use Rattle.nf_core.specs.declared.terms.Term.{Term}
 use Rattle.nf_core.specs.declared.terms.Term.TheVariants as t
 use Rattle.nf_core.specs.declared.terms.Link.TheVariants as link
+use Rattle.nf_core.specs.declared.terms.PlanRule.{PlanRule}
 use Rattle.nf_core.specs.declared.trees.Expr.{Expr, Expr-F, fold-Expr, fold-roll-Expr}
 use Rattle.nf_core.specs.declared.trees.Expr.TheOpen as x
 use Rattle.nf_core.specs.declared.trees.Expr.TheVariants as e
 use Rattle.nf_core.specs.declared.trees.Rule.{Rule}
 use Rattle.nf_core.specs.declared.trees.Atom.{Atom}
 use Rattle.nf_core.specs.declared.trees.Body.TheVariants as body
+use Rattle.nf_core.proofs.TermFolds.{fold_Bool, fold_Int, fold_Start, fold_Stop, fold_Key, fold_Neg, fold_Not, fold_Bin}
 
--- ---- the equations of folds over terms and over expressions, one for each form
-module _ (A : Type 0) (step : Term-F A → A) where
-  pub fold_Bool : (b : Bool) → fold-Term A step (t.Bool b) ≡ step (n.Bool b)
-  fold_Bool b = ap (fold-Term A step) (sym (t.rolls-Bool b)) ∙ fold-roll-Term A step (n.Bool b)
-
-  pub fold_Int : (k : ℤ) → fold-Term A step (t.Int k) ≡ step (n.Int k)
-  fold_Int k = ap (fold-Term A step) (sym (t.rolls-Int k)) ∙ fold-roll-Term A step (n.Int k)
-
-  pub fold_Start : (m : ℕ) → fold-Term A step (t.Start m) ≡ step (n.Start m)
-  fold_Start m = ap (fold-Term A step) (sym (t.rolls-Start m)) ∙ fold-roll-Term A step (n.Start m)
-
-  pub fold_Stop : (m : ℕ) → fold-Term A step (t.Stop m) ≡ step (n.Stop m)
-  fold_Stop m = ap (fold-Term A step) (sym (t.rolls-Stop m)) ∙ fold-roll-Term A step (n.Stop m)
-
-  pub fold_Key : (m place : ℕ) → fold-Term A step (t.Key m place) ≡ step (n.Key m place)
-  fold_Key m place = ap (fold-Term A step) (sym (t.rolls-Key m place)) ∙ fold-roll-Term A step (n.Key m place)
-
-  pub fold_Neg : (a : Term) → fold-Term A step (t.Neg a) ≡ step (n.Neg (fold-Term A step a))
-  fold_Neg a = ap (fold-Term A step) (sym (t.rolls-Neg a)) ∙ fold-roll-Term A step (n.Neg a)
-
-  pub fold_Not : (a : Term) → fold-Term A step (t.Not a) ≡ step (n.Not (fold-Term A step a))
-  fold_Not a = ap (fold-Term A step) (sym (t.rolls-Not a)) ∙ fold-roll-Term A step (n.Not a)
-
-  pub fold_Bin : (o : BinOp) (a b : Term) → fold-Term A step (t.Bin o a b) ≡ step (n.Bin o (fold-Term A step a) (fold-Term A step b))
-  fold_Bin o a b = ap (fold-Term A step) (sym (t.rolls-Bin o a b)) ∙ fold-roll-Term A step (n.Bin o a b)
-
+-- ---- the equations of folds over terms and over expressions
 pub ruleset terms = (fold_Bool, fold_Int, fold_Start, fold_Stop, fold_Key, fold_Neg, fold_Not, fold_Bin)
 
 module _ (A : Type 0) (step : Expr-F A → A) where
-  fold_int : (k : ℤ) → fold-Expr A step (e.Int k) ≡ step (x.Int k)
+  pub fold_bool : (b : Bool) → fold-Expr A step (e.Bool b) ≡ step (x.Bool b)
+  fold_bool b = ap (fold-Expr A step) (sym (e.rolls-Bool b)) ∙ fold-roll-Expr A step (x.Bool b)
+
+  pub fold_int : (k : ℤ) → fold-Expr A step (e.Int k) ≡ step (x.Int k)
   fold_int k = ap (fold-Expr A step) (sym (e.rolls-Int k)) ∙ fold-roll-Expr A step (x.Int k)
 
-  fold_start : (l : List ℕ) → fold-Expr A step (e.Start l) ≡ step (x.Start l)
+  pub fold_start : (l : List ℕ) → fold-Expr A step (e.Start l) ≡ step (x.Start l)
   fold_start l = ap (fold-Expr A step) (sym (e.rolls-Start l)) ∙ fold-roll-Expr A step (x.Start l)
 
-  fold_stop : (l : List ℕ) → fold-Expr A step (e.Stop l) ≡ step (x.Stop l)
+  pub fold_stop : (l : List ℕ) → fold-Expr A step (e.Stop l) ≡ step (x.Stop l)
   fold_stop l = ap (fold-Expr A step) (sym (e.rolls-Stop l)) ∙ fold-roll-Expr A step (x.Stop l)
 
-  fold_key : (l key : List ℕ) → fold-Expr A step (e.Key l key) ≡ step (x.Key l key)
+  pub fold_key : (l key : List ℕ) → fold-Expr A step (e.Key l key) ≡ step (x.Key l key)
   fold_key l key = ap (fold-Expr A step) (sym (e.rolls-Key l key)) ∙ fold-roll-Expr A step (x.Key l key)
 
-  fold_bin : (o : BinOp) (a b : Expr) → fold-Expr A step (e.Bin o a b) ≡ step (x.Bin o (fold-Expr A step a) (fold-Expr A step b))
+  pub fold_neg : (a : Expr) → fold-Expr A step (e.Neg a) ≡ step (x.Neg (fold-Expr A step a))
+  fold_neg a = ap (fold-Expr A step) (sym (e.rolls-Neg a)) ∙ fold-roll-Expr A step (x.Neg a)
+
+  pub fold_not : (a : Expr) → fold-Expr A step (e.Not a) ≡ step (x.Not (fold-Expr A step a))
+  fold_not a = ap (fold-Expr A step) (sym (e.rolls-Not a)) ∙ fold-roll-Expr A step (x.Not a)
+
+  pub fold_bin : (o : BinOp) (a b : Expr) → fold-Expr A step (e.Bin o a b) ≡ step (x.Bin o (fold-Expr A step a) (fold-Expr A step b))
   fold_bin o a b = ap (fold-Expr A step) (sym (e.rolls-Bin o a b)) ∙ fold-roll-Expr A step (x.Bin o a b)
 
-ruleset exprs = (fold_int, fold_start, fold_stop, fold_key, fold_bin)
+pub ruleset exprs = (fold_bool, fold_int, fold_start, fold_stop, fold_key, fold_neg, fold_not, fold_bin)
 
 -- ---- values
 abbrev pub nat : ℕ → Value
@@ -243,13 +229,27 @@ rover = record {
 abbrev rover_levels : Levels
 rover_levels = (codes "BOOT_S", 0) ∷ (codes "BOOT_E", 0) ∷ (codes "DOWNLINK", 0) ∷ (codes "BOOT", 1) ∷ (codes "DBOOT", 2) ∷ (codes "RISK", 3) ∷ []
 
+-- `BOOT_S.count = BOOT_E.count`, and `b2.end - b1.begin <= 10000`
+abbrev same_count : Term
+same_count = t.Bin op.Eq (t.Key 0 0) (t.Key 1 0)
+
+abbrev soon : Term
+soon = t.Bin op.Le (t.Bin op.Sub (t.Stop 1) (t.Start 0)) (t.Int (pos 10000))
+
+abbrev boot : PlanRule
+boot = record { head = 0; keys = 1; first = 1; link = link.Pair Before 2; filter = Some same_count; entries = record { place = 0; value = t.Key 0 0 } ∷ []; start = None; stop = None }
+
+abbrev double_boot : PlanRule
+double_boot = record { head = 3; keys = 1; first = 0; link = link.Pair Before 0; filter = Some soon; entries = record { place = 0; value = t.Key 0 0 } ∷ []; start = None; stop = None }
+
+abbrev risk : PlanRule
+risk = record { head = 4; keys = 1; first = 5; link = link.Pair During 3; filter = None; entries = record { place = 0; value = t.Key 1 0 } ∷ []; start = None; stop = None }
+
 abbrev pub rover_plan : Plan
 rover_plan = record {
   names = codes "BOOT" ∷ codes "BOOT_S" ∷ codes "BOOT_E" ∷ codes "DBOOT" ∷ codes "RISK" ∷ codes "DOWNLINK" ∷ [];
   keys = (count ∷ []) ∷ (count ∷ []) ∷ (count ∷ []) ∷ (count ∷ []) ∷ (count ∷ []) ∷ [] ∷ [];
-  rules = record { head = 0; keys = 1; first = 1; link = link.Pair Before 2; filter = Some (t.Bin op.Eq (t.Key 0 0) (t.Key 1 0)); entries = record { place = 0; value = t.Key 0 0 } ∷ []; start = None; stop = None }
-      ∷ record { head = 3; keys = 1; first = 0; link = link.Pair Before 0; filter = Some (t.Bin op.Le (t.Bin op.Sub (t.Stop 1) (t.Start 0)) (t.Int (pos 10000))); entries = record { place = 0; value = t.Key 0 0 } ∷ []; start = None; stop = None }
-      ∷ record { head = 4; keys = 1; first = 5; link = link.Pair During 3; filter = None; entries = record { place = 0; value = t.Key 1 0 } ∷ []; start = None; stop = None } ∷ [];
+  rules = boot ∷ double_boot ∷ risk ∷ [];
   levels = 1 ∷ 0 ∷ 0 ∷ 2 ∷ 3 ∷ 0 ∷ [];
 }
 
@@ -309,6 +309,77 @@ no_key = record { few = omega arith; ascending = tt; identifiers = All-nil _ }
 small : (a b : ℕ) → a < 6 → b < 6 → All (λ n. n < 6) (a ∷ b ∷ [])
 small a b l m = All-from_recursion (λ n. n < 6) (a ∷ b ∷ []) (l, (m, tt))
 
+-- its terms: of `where`, and the key that each map copies
+same_count_over : IsTermOver rover_plan (body_names boot) same_count
+unfolding reads_within reads_within_node operators_of operators_of_node texts_of texts_at_node
+same_count_over = record { reads = simp terms; few = simp terms (omega arith); plain = simp terms (All-nil IsPlain) }
+
+soon_over : IsTermOver rover_plan (body_names double_boot) soon
+unfolding reads_within reads_within_node operators_of operators_of_node texts_of texts_at_node
+soon_over = record { reads = simp terms; few = simp terms (omega arith); plain = simp terms (All-nil IsPlain) }
+
+same_count_is_condition : IsTrue (is_condition (kind_of_term same_count))
+unfolding kind_of_term kind_of_node kind_of_binary
+same_count_is_condition = simp terms
+
+soon_is_condition : IsTrue (is_condition (kind_of_term soon))
+unfolding kind_of_term kind_of_node kind_of_binary
+soon_is_condition = simp terms
+
+copied : (rule : PlanRule) (m : ℕ) → 0 < rule.keys → IsTrue (nat_lt 0 (slice_index (widths_of_names rover_plan (result_names rule)) m)) → IsEntryOf rover_plan rule (record { place = 0; value = t.Key m 0 })
+unfolding reads_within reads_within_node operators_of operators_of_node texts_of texts_at_node kind_of_term kind_of_node
+copied rule m keys width = record {
+  place = keys;
+  value = record { reads = simp terms width; few = simp terms (omega arith); plain = simp terms (All-nil IsPlain) };
+  kind = simp terms;
+}
+
+rover_rules : All (IsRuleOf rover_plan) rover_plan.rules
+unfolding IsDistinct
+rover_rules = All-from_recursion (IsRuleOf rover_plan) rover_plan.rules (
+  record {
+    head = omega arith;
+    body = small 1 2 (omega arith) (omega arith);
+    keys = refl;
+    filter = All-from_recursion (IsTermOver rover_plan (body_names boot)) (same_count ∷ []) (same_count_over, tt);
+    condition = All-from_recursion (λ term. IsTrue (is_condition (kind_of_term term))) (same_count ∷ []) (same_count_is_condition, tt);
+    places = (tt, tt);
+    entries = All-from_recursion (IsEntryOf rover_plan boot) boot.entries (copied boot 0 (omega arith) refl, tt);
+    start = All-nil _;
+    stop = All-nil _;
+    end_points = All-nil _;
+  },
+  (
+    record {
+      head = omega arith;
+      body = small 0 0 (omega arith) (omega arith);
+      keys = refl;
+      filter = All-from_recursion (IsTermOver rover_plan (body_names double_boot)) (soon ∷ []) (soon_over, tt);
+      condition = All-from_recursion (λ term. IsTrue (is_condition (kind_of_term term))) (soon ∷ []) (soon_is_condition, tt);
+      places = (tt, tt);
+      entries = All-from_recursion (IsEntryOf rover_plan double_boot) double_boot.entries (copied double_boot 0 (omega arith) refl, tt);
+      start = All-nil _;
+      stop = All-nil _;
+      end_points = All-nil _;
+    },
+    (
+      record {
+        head = omega arith;
+        body = small 5 3 (omega arith) (omega arith);
+        keys = refl;
+        filter = All-nil _;
+        condition = All-nil _;
+        places = (tt, tt);
+        entries = All-from_recursion (IsEntryOf rover_plan risk) risk.entries (copied risk 1 (omega arith) refl, tt);
+        start = All-nil _;
+        stop = All-nil _;
+        end_points = All-nil _;
+      },
+      tt,
+    ),
+  ),
+)
+
 rover_is_plan : IsPlan rover_plan
 unfolding is_identifier has_name_form keywords IsDistinct
 rover_is_plan = record {
@@ -320,11 +391,5 @@ rover_is_plan = record {
   keys = All-from_recursion AreKeys rover_plan.keys (one_key, (one_key, (one_key, (one_key, (one_key, (no_key, tt))))));
   each_level = refl;
   levels = rover_levelled;
-  rules = All-from_recursion (IsRuleOf rover_plan) rover_plan.rules (
-    record { head = omega arith; body = small 1 2 (omega arith) (omega arith); keys = refl },
-    (
-      record { head = omega arith; body = small 0 0 (omega arith) (omega arith); keys = refl },
-      (record { head = omega arith; body = small 5 3 (omega arith) (omega arith); keys = refl }, tt),
-    ),
-  );
+  rules = rover_rules;
 }

@@ -1,10 +1,14 @@
--- A worked example: the rules `w :- a` and `x :- w before b`, their levels, and their plan.
-use Rattle.std.specs.Prelude.{ℕ, List, [], ◌∷◌, codes, None}
+-- Worked examples: the rules `w :- a` and `x :- w before b`, their levels and their plan, and a rule with each clause.
+use Rattle.std.specs.Prelude.{ℕ, true, List, [], ◌∷◌, codes, None, Some}
 use Rattle.nf_core.specs.Plan.{Plan}
 use Rattle.nf_core.specs.Written.{Levels}
 use Rattle.nf_core.specs.declared.operators.Op.TheVariants.{Before}
+use Rattle.nf_core.specs.declared.operators.BinOp.TheVariants.{Lt}
 use Rattle.nf_core.specs.declared.trees.Atom.{Atom}
 use Rattle.nf_core.specs.declared.trees.Body.TheVariants as body
+use Rattle.nf_core.specs.declared.trees.Entry.{Entry}
+use Rattle.nf_core.specs.declared.trees.Expr.{Expr}
+use Rattle.nf_core.specs.declared.trees.Expr.TheVariants as expr
 use Rattle.nf_core.specs.declared.trees.Rule.{Rule}
 use Rattle.nf_core.specs.declared.terms.Link.TheVariants as link
 
@@ -32,4 +36,23 @@ example_plan = record {
       ∷ record { head = 2; keys = 0; first = 0; link = link.Pair Before 3; filter = None; entries = []; start = None; stop = None }
       ∷ [];
   levels = 1 ∷ 0 ∷ 2 ∷ 0 ∷ [];
+}
+
+-- `!(b.k < -a.j)`
+abbrev pub example_condition : Expr
+example_condition = expr.Not (expr.Bin Lt (expr.Key (codes "b") (codes "k")) (expr.Neg (expr.Key (codes "a") (codes "j"))))
+
+-- `z -> b.k, b -> true`
+abbrev pub example_entries : List Entry
+example_entries = record { key = codes "z"; value = expr.Key (codes "b") (codes "k") } ∷ record { key = codes "b"; value = expr.Bool true } ∷ []
+
+-- `w :- a before b where !(b.k < -a.j) map { z -> b.k, b -> true } begin a.begin end b.p`
+abbrev pub example_rule : Rule
+example_rule = record {
+  head = codes "w";
+  body = body.Pair (atom_of (codes "a")) Before (atom_of (codes "b"));
+  filter = Some example_condition;
+  entries = example_entries;
+  start = Some (expr.Start (codes "a"));
+  stop = Some (expr.Key (codes "b") (codes "p"));
 }

@@ -11,3 +11,5 @@ pub mod Kinds
 pub mod Plan
 pub mod Written
 pub mod Example
+pub mod Collected
+pub mod Numbered

@@ -1,11 +1,15 @@
 -- The plan as contracts see it: names, keys, rules and levels by number.
-use Rattle.std.specs.Prelude.{◌≡◌, ℕ, suc, ◌<◌, ◌^◌, max, Bool, ◌==◌, List, [], ◌∷◌, length, map, filter, fold, flat_map, slice_index_or, All, IsTrue}
+use Rattle.std.specs.Prelude.{◌≡◌, ℕ, suc, ◌<◌, ◌≤◌, ◌^◌, max, Bool, ◌==◌, List, [], ◌∷◌, ◌++◌, length, map, filter, fold, flat_map, slice_index_or, option_to_list, All, IsTrue}
 use Rattle.std.specs.List.{list_any, IsDistinct}
 use Rattle.std.specs.List.Sorted.{IsStrictlySortedBy}
-use Rattle.nf_core.specs.Texts.{text_cmp, text_eq}
+use Rattle.nf_core.specs.Texts.{text_cmp, text_eq, IsPlain}
 use Rattle.nf_core.specs.Identifiers.{is_identifier}
+use Rattle.nf_core.specs.Expressions.{reads_within, operators_of, texts_of}
+use Rattle.nf_core.specs.Kinds.{kind_of_term, is_condition, is_end_point, is_map_value}
+use Rattle.nf_core.specs.declared.terms.Term.{Term}
 use Rattle.nf_core.specs.declared.terms.Link.{Link}
 use Rattle.nf_core.specs.declared.terms.Link.TheVariants.{One, Pair, Unless}
+use Rattle.nf_core.specs.declared.terms.PlanEntry.{PlanEntry}
 use Rattle.nf_core.specs.declared.terms.PlanRule.{PlanRule}
 
 -- the names by number, the keys of each name by place, the rules in order, and the level of each name
@@ -41,6 +45,20 @@ second_name (Unless xop n) = n ∷ []
 abbrev pub body_names : PlanRule → List ℕ
 body_names rule = rule.first ∷ second_name rule.link
 
+-- the second name of an inclusive body, where there is one
+abbrev pub joined_name : Link → List ℕ
+joined_name One = []
+joined_name (Pair op n) = n ∷ []
+joined_name (Unless xop n) = []
+
+-- the names of the members that a rule's result is made of: those of its body, and of an exclusive rule the first one alone
+abbrev pub result_names : PlanRule → List ℕ
+result_names rule = rule.first ∷ joined_name rule.link
+
+-- how many keys each of some names has
+abbrev pub widths_of_names : Plan → List ℕ → List ℕ
+widths_of_names plan names = map (λ n. length (keys_of plan n)) names
+
 -- the greatest of some numbers, and 0 of none
 abbrev pub greatest : List ℕ → ℕ
 greatest = fold max 0
@@ -49,11 +67,30 @@ greatest = fold max 0
 abbrev pub level_by_rules : Plan → ℕ → ℕ
 level_by_rules plan n = greatest (map (λ m. suc (level_of plan m)) (flat_map body_names (rules_of plan n)))
 
--- the numbers of a rule are names of the plan, and it knows how many keys its head has
+-- an expression over members of some names: it reads those members and places of their names' keys alone, it has at most 256 operators, and its texts are plain
+pub record IsTermOver (plan : Plan) (names : List ℕ) (term : Term) : Type 0 where
+  pub reads : IsTrue (reads_within (widths_of_names plan names) term)
+  pub few : operators_of term ≤ 256
+  pub plain : All IsPlain (texts_of term)
+
+-- an entry of a rule's map: the place of a key of the head, and a value of a map over the result's members
+pub record IsEntryOf (plan : Plan) (rule : PlanRule) (entry : PlanEntry) : Type 0 where
+  pub place : entry.place < rule.keys
+  pub value : IsTermOver plan (result_names rule) entry.value
+  pub kind : IsTrue (is_map_value (kind_of_term entry.value))
+
+-- the numbers of a rule are names of the plan, and it knows how many keys its head has; `where` is a condition over the body's members, the map gives each key at most once, and `begin` and `end` are end points over the result's members
 pub record IsRuleOf (plan : Plan) (rule : PlanRule) : Type 0 where
   pub head : rule.head < length plan.names
   pub body : All (λ n. n < length plan.names) (body_names rule)
   pub keys : rule.keys ≡ length (keys_of plan rule.head)
+  pub filter : All (IsTermOver plan (body_names rule)) (option_to_list rule.filter)
+  pub condition : All (λ term. IsTrue (is_condition (kind_of_term term))) (option_to_list rule.filter)
+  pub places : IsDistinct (λ m n. m == n) (map (λ (entry : PlanEntry). entry.place) rule.entries)
+  pub entries : All (IsEntryOf plan rule) rule.entries
+  pub start : All (IsTermOver plan (result_names rule)) (option_to_list rule.start)
+  pub stop : All (IsTermOver plan (result_names rule)) (option_to_list rule.stop)
+  pub end_points : All (λ term. IsTrue (is_end_point (kind_of_term term))) (option_to_list rule.start ++ option_to_list rule.stop)
 
 -- ascending, each once, fewer than 2^32 of them, and each an identifier
 pub record AreKeys (keys : List (List ℕ)) : Type 0 where

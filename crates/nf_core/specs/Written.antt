@@ -1,13 +1,15 @@
 -- What a plan takes from written rules: names, keys of a name, terms and levels.
-use Rattle.std.specs.Prelude.{◌≡◌, ℕ, suc, ◌<◌, ◌^◌, List, [], ◌∷◌, ◌++◌, length, map, filter, fold, flat_map, option_map, unwrap_or, Option, None, Some, bytes_eq, All, IsTrue, if◌then◌else◌}
+use Rattle.std.specs.Prelude.{◌≡◌, ℕ, suc, ◌<◌, ◌^◌, List, [], ◌∷◌, ◌++◌, length, map, filter, fold, flat_map, option_map, unwrap_or, Option, Some, bytes_eq, All, IsTrue, if◌then◌else◌}
 use Rattle.std.specs.List.{position_or_len}
 use Rattle.std.specs.Map.{lookup}
 use Rattle.indexmap.specs.IndexSet as distinct
 use Rattle.std.specs.BTreeSet as sorted
-use Rattle.nf_core.specs.Texts.{text_cmp, text_eq}
+use Rattle.nf_core.specs.Texts.{text_cmp, text_eq, IsPlain}
 use Rattle.nf_core.specs.Identifiers.{is_identifier}
 use Rattle.nf_core.specs.Plan.{Plan, greatest}
-use Rattle.nf_core.specs.Trees.{atoms_of, expressions_of}
+use Rattle.nf_core.specs.Trees as tree
+use Rattle.nf_core.specs.Trees.{Tree, atoms_of, expressions_of}
+use Rattle.nf_core.specs.Kinds.{AreKindsRight}
 use Rattle.nf_core.specs.declared.trees.Expr as expr
 use Rattle.nf_core.specs.declared.trees.Expr.TheOpen as node
 use Rattle.nf_core.specs.declared.trees.Expr.TheFolds.{fold-Expr}
@@ -145,17 +147,24 @@ IsLevelOf rules levels name =
 abbrev pub AreLevels : List Rule → Levels → Type 0
 AreLevels rules levels = All (IsLevelOf rules levels) (names_of rules)
 
--- a rule without clauses
-pub record IsBare (rule : Rule) : Type 0 where
-  pub filter : rule.filter ≡ None
-  pub entries : rule.entries ≡ []
-  pub start : rule.start ≡ None
-  pub stop : rule.stop ≡ None
+-- the texts that stand in an expression
+unfoldable pub texts_in : Tree → List (List ℕ)
+texts_in (tree.Text t) = t ∷ []
+texts_in (tree.Neg a) = texts_in a
+texts_in (tree.Not a) = texts_in a
+texts_in (tree.Bin op a b) = texts_in a ++ texts_in b
+texts_in other = []
 
--- rules of which a plan can be made: few enough, and with identifiers for names and keys
+-- every text in the expressions of a rule is plain
+abbrev pub HasPlainTexts : Rule → Type 0
+HasPlainTexts rule = All (λ x. All IsPlain (texts_in (tree.tree x))) (expressions_of rule)
+
+-- rules of which a plan can be made: few enough, with identifiers for names and keys, with right kinds, and with plain texts
 pub record CanBePlanned (rules : List Rule) : Type 0 where
   pub few_rules : length rules < 2 ^ 32
   pub few_names : length (names_of rules) < 2 ^ 32
   pub few_keys : All (λ name. length (keys_of_name rules name) < 2 ^ 32) (names_of rules)
   pub names : All (λ name. IsTrue (is_identifier name)) (names_of rules)
   pub keys : All (λ name. All (λ key. IsTrue (is_identifier key)) (keys_of_name rules name)) (names_of rules)
+  pub kinds : All AreKindsRight rules
+  pub plain : All HasPlainTexts rules

@@ -4,15 +4,19 @@
 mod copies;
 mod errors;
 mod intervals;
+mod key_places;
 mod laws;
 mod lines;
 mod lists;
+mod numbered_rules;
+mod numbered_terms;
 mod numbering;
 mod operators;
 mod plan_levels;
 mod plans;
 mod rows;
 mod sets;
+mod sorted_texts;
 mod steps;
 mod terms;
 #[cfg(test)]

@@ -1,18 +1,12 @@
-//! What a plan takes from written rules: names by number, rules over these numbers, and levels.
+//! The names of rules by number, and their levels.
 
-ghost use Rattle.std.specs.Prelude.{◌≡◌, ◌<◌, ◌^◌, List, [], length, map, unwrap_or, All, Contains, IfOk, OnOk};
-ghost use Rattle.std.proofs.Common.{replicate};
+ghost use Rattle.std.specs.Prelude.{◌≡◌, ◌<◌, ◌^◌, length, map, unwrap_or, Contains, IfOk, OnOk};
 ghost use Rattle.indexmap.specs.IndexSet.{insert_all};
 ghost use Rattle.nf_core.specs.Texts.{text_eq};
-ghost use Rattle.nf_core.specs.Trees.{atoms_of};
-ghost use Rattle.nf_core.specs.Written.{names_in, names_of, keys_of_name, place_of, first_of, link_of, plan_rule, level_of_name, IsBare};
-ghost use Rattle.nf_core.specs.declared.trees.Atom.{Atom};
-ghost use Rattle.nf_core.specs.declared.trees.Rule.{Rule};
+ghost use Rattle.nf_core.specs.Written.{names_in, names_of, place_of, level_of_name};
 
 use crate::errors::NoMemory;
-use crate::lists::ListOf;
 use crate::plan_levels::Levels;
-use crate::terms::{Link, PlanRule};
 use crate::text_sets::TextSet;
 use crate::texts::Text;
 use crate::trees::{Body, Rule, RuleList};
@@ -47,15 +41,14 @@ fn add_names(names: &mut TextSet, rule: &Rule) -> Result<(), NoMemory>
     }
 }
 
-/// No keys for each of some names: rules without clauses read none and map none.
-pub fn no_keys(alloc: Global, names: usize) -> Result<ListOf<TextSet>, NoMemory>
-    ensures { IfOk result (λ keys. keys ≡ replicate names []) }
+/// The number of a name that is there.
+pub(crate) fn number_of(names: &TextSet, name: &Text) -> u32
+    requires few { length names.now < 2 ^ 32 }
+    requires known { Contains names.now name.now }
+    ensures number { result ≡ place_of names.now name.now }
+    ensures within { result < length names.now }
 {
-    let mut keys = ListOf::new(alloc);
-    for _ in 0..names {
-        keys.push(TextSet::new(alloc))?;
-    }
-    Ok(keys)
+    names.find(name.as_str()).unwrap() as u32
 }
 
 /// The levels of names, in the order of their numbers. A name without a level has level 0.
@@ -72,77 +65,4 @@ pub fn levels_by_number(
         list.push(level)?;
     }
     Ok(list)
-}
-
-/// Rules without clauses, over the numbers of their names.
-pub fn rules_by_number(
-    alloc: Global,
-    names: &TextSet,
-    rules: &RuleList,
-) -> Result<ListOf<PlanRule>, NoMemory>
-    requires named { names.now ≡ names_of rules.now }
-    requires few { length names.now < 2 ^ 32 }
-    requires bare { All IsBare rules.now }
-    ensures { IfOk result (λ list. list ≡ map (plan_rule rules.now) rules.now) }
-{
-    let mut list = ListOf::new(alloc);
-    for rule in rules.as_slice() {
-        list.push(numbered_rule(alloc, names, rule))?;
-    }
-    Ok(list)
-}
-
-/// A rule without clauses, over the numbers of its names.
-fn numbered_rule(alloc: Global, names: &TextSet, rule: &Rule) -> PlanRule
-    requires few { length names.now < 2 ^ 32 }
-    requires head { Contains names.now rule.now.head }
-    requires body { All (Contains names.now) (map (λ (atom : Atom). atom.name) (atoms_of rule.now.body)) }
-    requires bare { IsBare rule.now }
-    ensures { (rules : List Rule) → names_of rules ≡ names.now → keys_of_name rules rule.now.head ≡ [] → result ≡ plan_rule rules rule.now }
-{
-    PlanRule {
-        head: number_of(names, &rule.head),
-        keys: 0,
-        first: first_number(names, &rule.body),
-        link: numbered_link(names, &rule.body),
-        filter: None,
-        entries: ListOf::new(alloc),
-        start: None,
-        stop: None,
-    }
-}
-
-/// The number of a body's first name.
-fn first_number(names: &TextSet, body: &Body) -> u32
-    requires few { length names.now < 2 ^ 32 }
-    requires known { All (Contains names.now) (map (λ (atom : Atom). atom.name) (atoms_of body.now)) }
-    ensures { (rules : List Rule) → names_of rules ≡ names.now → result ≡ first_of rules body.now }
-{
-    match body {
-        Body::One(first) => number_of(names, &first.name),
-        Body::Pair(first, _, _) => number_of(names, &first.name),
-        Body::Unless(first, _, _) => number_of(names, &first.name),
-    }
-}
-
-/// How a body's first name is linked to its second one, by that name's number.
-fn numbered_link(names: &TextSet, body: &Body) -> Link
-    requires few { length names.now < 2 ^ 32 }
-    requires known { All (Contains names.now) (map (λ (atom : Atom). atom.name) (atoms_of body.now)) }
-    ensures { (rules : List Rule) → names_of rules ≡ names.now → result ≡ link_of rules body.now }
-{
-    match body {
-        Body::One(_) => Link::One,
-        Body::Pair(_, op, second) => Link::Pair(*op, number_of(names, &second.name)),
-        Body::Unless(_, xop, second) => Link::Unless(*xop, number_of(names, &second.name)),
-    }
-}
-
-/// The number of a name that is there.
-fn number_of(names: &TextSet, name: &Text) -> u32
-    requires few { length names.now < 2 ^ 32 }
-    requires known { Contains names.now name.now }
-    ensures { result ≡ place_of names.now name.now }
-{
-    names.find(name.as_str()).unwrap() as u32
 }

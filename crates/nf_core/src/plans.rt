@@ -2,12 +2,14 @@
 
 ghost use Rattle.std.specs.Prelude.{◌≡◌, ◌<◌, length, position, slice_get, bytes_eq, Some, All, IfOk};
 ghost use Rattle.nf_core.specs.Plan.{IsPlan, keys_of, is_head, level_of};
-ghost use Rattle.nf_core.specs.Written.{CanBePlanned, AreLevels, IsBare, plan_of};
+ghost use Rattle.nf_core.specs.Written.{CanBePlanned, AreLevels, plan_of};
 
 use crate::copies::TryCopy;
 use crate::errors::NoMemory;
+use crate::key_places::keys_by_number;
 use crate::lists::ListOf;
-use crate::numbering::{levels_by_number, names_by_number, no_keys, rules_by_number};
+use crate::numbered_rules::rules_by_number;
+use crate::numbering::{levels_by_number, names_by_number};
 use crate::plan_levels::Levels;
 use crate::terms::PlanRule;
 use crate::text_sets::TextSet;
@@ -41,19 +43,18 @@ impl Model for Plan {
 }
 
 impl Plan {
-    /// The plan of rules without clauses, with their levels (`plan_of` of specs/Written): names are
-    /// numbered by first appearance, each head before its body, and rules stay in their order. The
-    /// rules need names and keys that are identifiers and fewer than 2^32 of each
-    /// (`CanBePlanned`), and every name needs its level (`AreLevels`).
+    /// The plan of rules with their levels (`plan_of` of specs/Written): names are numbered by first
+    /// appearance, each head before its body, the keys of a name ascend, and rules stay in their
+    /// order. The rules need names and keys that are identifiers, fewer than 2^32 of each, right
+    /// kinds and plain texts (`CanBePlanned`), and every name needs its level (`AreLevels`).
     pub fn build(alloc: Global, rules: &RuleList, levels: &Levels) -> Result<Plan, NoMemory>
         requires planned { CanBePlanned rules.now }
         requires leveled { AreLevels rules.now levels.now }
-        requires bare { All IsBare rules.now }
         ensures { IfOk result (λ plan. plan ≡ plan_of rules.now levels.now) }
     {
         let names = names_by_number(alloc, rules)?;
-        let keys = no_keys(alloc, names.len())?;
-        let numbered = rules_by_number(alloc, &names, rules)?;
+        let keys = keys_by_number(alloc, &names, rules)?;
+        let numbered = rules_by_number(alloc, &names, keys.as_slice(), rules)?;
         let levels = levels_by_number(alloc, &names, levels)?;
         Ok(Plan {
             names,

@@ -1,8 +1,8 @@
 //! Each call that may want memory, once with ample memory, and its answer.
 
 ghost use Rattle.std.specs.Prelude.{◌≡◌, ◌<◌, [], length, None, IfOk};
-ghost use Rattle.nf_core.specs.Trees.{tree, IsWithinLimits};
-ghost use Rattle.nf_core.specs.Example.{example_rules, example_levels, atom_of};
+ghost use Rattle.nf_core.specs.Example.{example_rules, example_levels, example_condition, example_entries, example_rule, atom_of};
+ghost use Rattle.nf_core.specs.declared.trees.Expr.TheVariants as expr;
 ghost use Rattle.nf_core.specs.declared.trees.Rule.{Rule};
 
 use crate::copies::TryCopy;
@@ -83,27 +83,6 @@ fn lists_and_sets(rt: HostRuntime) -> Result<(), Fail> {
     Ok(())
 }
 
-fn expression(alloc: Global) -> Result<Expr, NoMemory>
-    ensures { IfOk result (λ x. IsWithinLimits (tree x)) }
-{
-    let key = Expr::Key(Text::new(alloc, "a")?, Text::new(alloc, "k")?);
-    let start = Expr::Neg(Boxed::new(alloc, Expr::Start(Text::new(alloc, "a")?))?);
-    Ok(Expr::Bin(
-        BinOp::Add,
-        Boxed::new(alloc, key)?,
-        Boxed::new(alloc, start)?,
-    ))
-}
-
-fn term(alloc: Global) -> Result<Term, NoMemory> {
-    let start = Term::Neg(Boxed::new(alloc, Term::Start(0))?);
-    Ok(Term::Bin(
-        BinOp::Add,
-        Boxed::new(alloc, Term::Key(0, 1))?,
-        Boxed::new(alloc, start)?,
-    ))
-}
-
 fn atom(alloc: Global, name: &str) -> Result<Atom, NoMemory>
     ensures { IfOk result (λ atom. atom ≡ atom_of name.now) }
 {
@@ -113,20 +92,77 @@ fn atom(alloc: Global, name: &str) -> Result<Atom, NoMemory>
     })
 }
 
-/// A rule with each clause.
-fn rule_with_clauses(alloc: Global) -> Result<Rule, NoMemory> {
+fn key(alloc: Global, label: &str, key: &str) -> Result<Expr, NoMemory>
+    ensures { IfOk result (λ x. x ≡ expr.Key label.now key.now) }
+{
+    Ok(Expr::Key(Text::new(alloc, label)?, Text::new(alloc, key)?))
+}
+
+/// `!(b.k < -a.j)`.
+fn condition(alloc: Global) -> Result<Expr, NoMemory>
+    ensures { IfOk result (λ x. x ≡ example_condition) }
+{
+    let left = Boxed::new(alloc, key(alloc, "b", "k")?)?;
+    let negated = Boxed::new(alloc, key(alloc, "a", "j")?)?;
+    let right = Boxed::new(alloc, Expr::Neg(negated))?;
+    let less = Boxed::new(alloc, Expr::Bin(BinOp::Lt, left, right))?;
+    Ok(Expr::Not(less))
+}
+
+/// `z -> b.k, b -> true`.
+fn entries(alloc: Global) -> Result<EntryList, NoMemory>
+    ensures { IfOk result (λ entries. entries ≡ example_entries) }
+{
     let mut entries = EntryList::new(alloc);
     entries.push(Entry {
-        key: Text::new(alloc, "k")?,
+        key: Text::new(alloc, "z")?,
+        value: key(alloc, "b", "k")?,
+    })?;
+    entries.push(Entry {
+        key: Text::new(alloc, "b")?,
         value: Expr::Bool(true),
     })?;
+    Ok(entries)
+}
+
+/// A rule with each clause.
+fn rule_with_clauses(alloc: Global) -> Result<Rule, NoMemory>
+    ensures { IfOk result (λ rule. rule ≡ example_rule) }
+{
     Ok(Rule {
         head: Text::new(alloc, "w")?,
         body: Body::Pair(atom(alloc, "a")?, Op::Before, atom(alloc, "b")?),
-        filter: Some(expression(alloc)?),
-        entries,
+        filter: Some(condition(alloc)?),
+        entries: entries(alloc)?,
         start: Some(Expr::Start(Text::new(alloc, "a")?)),
-        stop: Some(Expr::Stop(Text::new(alloc, "b")?)),
+        stop: Some(key(alloc, "b", "p")?),
+    })
+}
+
+/// The same rule where `w`, `a` and `b` are numbered from 0. The keys of `w` are `b` and `z`, that of
+/// `a` is `j`, and those of `b` are `k` and `p`.
+fn plan_rule_with_clauses(alloc: Global) -> Result<PlanRule, NoMemory> {
+    let left = Boxed::new(alloc, Term::Key(1, 0))?;
+    let right = Boxed::new(alloc, Term::Neg(Boxed::new(alloc, Term::Key(0, 0))?))?;
+    let less = Boxed::new(alloc, Term::Bin(BinOp::Lt, left, right))?;
+    let mut entries = PlanEntryList::new(alloc);
+    entries.push(PlanEntry {
+        place: 1,
+        value: Term::Key(1, 0),
+    })?;
+    entries.push(PlanEntry {
+        place: 0,
+        value: Term::Bool(true),
+    })?;
+    Ok(PlanRule {
+        head: 0,
+        keys: 2,
+        first: 1,
+        link: Link::Pair(Op::Before, 2),
+        filter: Some(Term::Not(less)),
+        entries,
+        start: Some(Term::Start(0)),
+        stop: Some(Term::Key(1, 1)),
     })
 }
 
@@ -135,21 +171,7 @@ fn copies_of_trees(rt: HostRuntime) -> Result<(), Fail> {
     let alloc = rt.alloc();
     let rule = rule_with_clauses(alloc)?;
     assert_eq!(rt; shown(alloc, &rule.copy(alloc)?)?, shown(alloc, &rule)?);
-    let mut entries = PlanEntryList::new(alloc);
-    entries.push(PlanEntry {
-        place: 0,
-        value: Term::Bool(true),
-    })?;
-    let rule = PlanRule {
-        head: 0,
-        keys: 1,
-        first: 1,
-        link: Link::Pair(Op::Before, 2),
-        filter: Some(term(alloc)?),
-        entries,
-        start: Some(Term::Int(1)),
-        stop: None,
-    };
+    let rule = plan_rule_with_clauses(alloc)?;
     assert_eq!(rt; shown(alloc, &rule.copy(alloc)?)?, shown(alloc, &rule)?);
     Ok(())
 }
@@ -234,5 +256,45 @@ fn builds_a_plan(rt: HostRuntime) -> Result<(), Fail> {
     let copy = plan.copy(rt.alloc())?;
     assert!(rt; has_names(&plan) && has_levels(&plan) && has_rules(&plan));
     assert!(rt; has_names(&copy) && has_levels(&copy) && has_rules(&copy));
+    Ok(())
+}
+
+fn plan_with_clauses(alloc: Global) -> Result<Plan, NoMemory> {
+    let mut rules = RuleList::new(alloc);
+    rules.push(rule_with_clauses(alloc)?)?;
+    let mut levels = Levels::new(alloc);
+    levels.add("w", 1)?;
+    levels.add("a", 0)?;
+    levels.add("b", 0)?;
+    Plan::build(alloc, &rules, &levels)
+}
+
+/// Each name of the plan of the rule with clauses, with the places of its keys.
+static KEYS: [(&str, u32, &str); 5] = [
+    ("w", 0, "b"),
+    ("w", 1, "z"),
+    ("a", 0, "j"),
+    ("b", 0, "k"),
+    ("b", 1, "p"),
+];
+
+/// Whether a name has a key at a place.
+fn has_key(plan: &Plan, name: &str, place: u32, key: &str) -> bool {
+    match plan.find(name) {
+        Some(name) => place < plan.keys(name) && plan.key(name, place) == key,
+        None => false,
+    }
+}
+
+#[test]
+fn plans_each_clause(rt: HostRuntime) -> Result<(), Fail> {
+    let alloc = rt.alloc();
+    let plan = plan_with_clauses(alloc)?;
+    for (name, place, key) in &KEYS {
+        assert!(rt; has_key(&plan, name, *place, key));
+    }
+    assert!(rt; plan.names() == 3 && plan.rules() == 1);
+    let rule = plan_rule_with_clauses(alloc)?;
+    assert_eq!(rt; shown(alloc, plan.rule(0))?, shown(alloc, &rule)?);
     Ok(())
 }

@@ -1,11 +1,13 @@
 //! Texts, each once, by number.
 
-ghost use Rattle.std.specs.Prelude.{◌≡◌, ◌<◌, [], length, position, slice_get, bytes_eq, Some, OnOk, OnErr};
+ghost use Rattle.std.specs.Prelude.{◌≡◌, ◌<◌, ◌≤◌, [], length, position, slice_get, bytes_eq, Some, OnOk, OnErr};
 ghost use Rattle.indexmap.specs.IndexSet.{insert_key};
 ghost use Rattle.nf_core.specs.Texts.{text_eq};
+ghost use Rattle.nf_core.specs.Written.{place_of};
 
 use crate::copies::TryCopy;
 use crate::errors::NoMemory;
+use crate::texts::Text;
 use indexmap::IndexSet;
 use std::alloc::Global;
 use std::marker::Model;
@@ -58,6 +60,14 @@ impl TextSet {
         self.texts.get_index_of(text)
     }
 
+    /// The number of a text, and where it isn't in the set, how many texts there are.
+    pub fn place_of(&self, text: &str) -> usize
+        ensures place { result ≡ place_of self.now text.now }
+        ensures within { result ≤ length self.now }
+    {
+        self.find(text).unwrap_or(self.len())
+    }
+
     /// Puts a text in, last, where it wasn't. Where memory is wanted the set stays as it was.
     pub fn add(&mut self, text: &str) -> Result<(), NoMemory>
         ensures ok { OnOk result (self.new ≡ insert_key text_eq self.old text.now) }
@@ -65,6 +75,16 @@ impl TextSet {
     {
         let text = String::from_str(*self.texts.allocator(), text)?;
         self.texts.insert(text)?;
+        Ok(())
+    }
+
+    /// Puts a text in, last, where it wasn't, without a copy of it. Where memory is wanted the set
+    /// stays as it was.
+    pub fn put(&mut self, text: Text) -> Result<(), NoMemory>
+        ensures ok { OnOk result (self.new ≡ insert_key text_eq self.old text) }
+        ensures err { OnErr result (self.new ≡ self.old) }
+    {
+        self.texts.insert(text.into_string())?;
         Ok(())
     }
 }

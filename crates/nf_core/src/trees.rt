@@ -1,5 +1,9 @@
 //! The trees of a specification.
 
+ghost use Rattle.std.specs.Prelude.{◌≡◌, slice_get};
+ghost use Rattle.std.specs.Option.{option_copied};
+ghost use Rattle.nf_core.specs.Trees.{atoms_of};
+
 use crate::copies::TryCopy;
 use crate::errors::NoMemory;
 use crate::lists::ListOf;
@@ -72,6 +76,22 @@ impl Model for Rule {
     ghost invariant = { λ r. spec.IsRule (record { head = r.head; body = r.body; filter = r.filter; entries = r.entries; start = r.start; stop = r.stop }) };
 
     ghost inverse = { λ r. record { head = r.head; body = r.body; filter = r.filter; entries = r.entries; start = r.start; stop = r.stop } };
+}
+
+impl Rule {
+    /// The atom of the body at a place, counted from 0, in reading order. None exactly past the last.
+    /// Takes no memory.
+    pub fn reads(&self, place: usize) -> Option<&Atom>
+        ensures { option_copied result ≡ slice_get (atoms_of self.now.body) place }
+    {
+        match (&self.body, place) {
+            (Body::One(first) | Body::Pair(first, _, _) | Body::Unless(first, _, _), 0) => {
+                Some(first)
+            }
+            (Body::Pair(_, _, second) | Body::Unless(_, _, second), 1) => Some(second),
+            _ => None,
+        }
+    }
 }
 
 /// A module: a name or none, the names of the modules that it imports, and its rules.
