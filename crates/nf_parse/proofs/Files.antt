@@ -1,6 +1,6 @@
 -- Whole files: what is read to the end of the words is exactly a file, and there is one at most.
 use Rattle.std.proofs.Common.{◌≡◌, ℕ, zero, suc, ◌+◌, ◌≤◌, Bool, true, false, cond, List, [], ◌∷◌, length, refl, sym, ◌∙◌, subst, arith, Ok, Err, IsTrue}
-use Rattle.std.specs.Prelude.{is_some, flat_map}
+use Rattle.std.specs.Prelude.{is_some}
 use Rattle.std.specs.List.{All}
 use Rattle.std.proofs.lemmas.List.Elements.{All-nil, All-append, All-weaker, All-head, All-tail}
 use Rattle.nf_core.specs.Identifiers.{is_identifier}
@@ -11,7 +11,7 @@ use Rattle.nf_core.specs.declared.trees.Module.{Module}
 use Rattle.nf_parse.specs.declared.fault.Fault.TheVariants as fault
 use Rattle.nf_parse.specs.State.{Word, State, state, next, next_of}
 use Rattle.nf_parse.specs.Grammar.{File, modules_of}
-use Rattle.nf_parse.specs.Answers.{IsFileWithin, IsPassed}
+use Rattle.nf_parse.specs.Answers.{IsFileWithin, IsPassed, rules_in}
 use Rattle.nf_parse.specs.Parsers.{Outcome, Parser, bind, done}
 use Rattle.nf_parse.specs.Reading.{expression, paren}
 use Rattle.nf_parse.specs.Parts.{in_list, repeated_from, repeated}
@@ -129,12 +129,12 @@ module _ (parts : IsByParts) (fits : Word → Type 0) (w : IsWord fits) where
   written_rule : (rule : Rule) → IsGoodRule IsName IsWrittenExpr rule → IsWritten rule
   written_rule rule g = record { head = g.head; labels = g.labels; names = g.names; keys = g.keys; expressions = g.expressions }
 
-  written_rules : (modules : List Module) → All (IsWrittenModule IsName IsWrittenExpr) modules → All IsWritten (flat_map (λ (m : Module). m.rules) modules)
+  written_rules : (modules : List Module) → All (IsWrittenModule IsName IsWrittenExpr) modules → All IsWritten (rules_in modules)
   written_rules [] h = All-nil IsWritten
-  written_rules (m ∷ modules) h = All-append IsWritten m.rules (flat_map (λ (m : Module). m.rules) modules)
+  written_rules (m ∷ modules) h = All-append IsWritten m.rules (rules_in modules)
       (All-weaker (IsGoodRule IsName IsWrittenExpr) IsWritten written_rule m.rules (All-head (IsWrittenModule IsName IsWrittenExpr) m modules h))
       (written_rules modules (All-tail (IsWrittenModule IsName IsWrittenExpr) m modules h))
 
-  pub file_written : (depth : ℕ) (s t : State) (modules : List Module) → reading depth s ≡ Ok (modules, t) → All fits s.words → All IsWritten (flat_map (λ (m : Module). m.rules) modules)
+  pub file_written : (depth : ℕ) (s t : State) (modules : List Module) → reading depth s ≡ Ok (modules, t) → All fits s.words → All IsWritten (rules_in modules)
   file_written depth s t modules e h = written_rules modules ((file_reading IsName IsWrittenExpr depth fits w.name (expression (paren depth))
       (record { before = expression_before depth; given = λ s t x e h. expression_written parts fits w depth s t x e h; passed = λ s n e. expression_passed depth s n e })).given s t modules e h)

@@ -1,7 +1,6 @@
 -- What the modules of a source are, and what its answer says.
 use Rattle.std.proofs.Common.{◌≡◌, ◌≢◌, ◌≤◌, ◌<◌, ◌^◌, ◌-◌, ◌⊎◌, ◌↔◌, ◌≤ℤ◌, inl, inr, ℕ, pos, List, length, refl, sym, ap, subst, arith, ⊎_elim, Some, None, Result, Ok, Err, IfOk, IsTrue}
 use Rattle.std.proofs.lemmas.List.{length-map}
-use Rattle.std.specs.Prelude.{flat_map}
 use Rattle.std.specs.List.{All}
 use Rattle.std.specs.Str.Parse.{digits_value}
 use Rattle.std.proofs.Math.Dec.{le→leb}
@@ -24,7 +23,7 @@ use Rattle.nf_parse.specs.declared.fault.Fault.{Fault}
 use Rattle.nf_parse.specs.declared.fault.ParseFault.{ParseFault}
 use Rattle.nf_parse.specs.declared.fault.ParseFault.TheVariants as fault
 use Rattle.nf_parse.specs.State.{Word, State, state, words_of, word_of}
-use Rattle.nf_parse.specs.Answers.{most_open, most_operators, Spells}
+use Rattle.nf_parse.specs.Answers.{most_open, most_operators, Spells, rules_in, size_of}
 use Rattle.nf_parse.specs.Parses as parses
 use Rattle.nf_parse.specs.Parses.{Parses, settled}
 use Rattle.nf_parse.specs.Parsers.{Reads, IsSound}
@@ -34,7 +33,7 @@ use Rattle.nf_parse.proofs.Bytes.{number_small, text_kind, ident_kind}
 use Rattle.nf_parse.proofs.ExpressionRead.{IsWord}
 use Rattle.nf_parse.proofs.Limits.{IsByParts}
 use Rattle.nf_parse.proofs.Files.{file_written}
-use Rattle.nf_parse.proofs.RuleCounts.{file_rules}
+use Rattle.nf_parse.proofs.RuleCounts.{file_size}
 use Rattle.nf_parse.specs.Lexical.{of_lexical}
 use Rattle.nf_parse.proofs.Answered.{IsOneDivision, alike, no_memory}
 
@@ -79,16 +78,16 @@ word_of_expression w = record {
 }
 
 module _ (parts : IsByParts) (w : IsWrittenToken) (source : List ℕ) (found : List Token) (each : All (IsTokenOf source) found) where
-  pub given_written : (result : Result (List Module) ParseFault) → Answers source found result → IfOk result (λ modules. All IsWritten (flat_map (λ (m : Module). m.rules) modules))
+  pub given_written : (result : Result (List Module) ParseFault) → Answers source found result → IfOk result (λ modules. All IsWritten (rules_in modules))
   unfolding outcome_of limited
   given_written (Ok modules) a = file_written parts Sound (word_of_expression w) most_open (state most_operators (words_of source found)) a.0 modules a.1 (words_sound source found each)
   given_written (Err f) a = tt
 
 module _ (source : List ℕ) (found : List Token) (laid : AreLaidOut source 0 found) where
-  pub given_few : (result : Result (List Module) ParseFault) → Answers source found result → IfOk result (λ modules. length (flat_map (λ (m : Module). m.rules) modules) ≤ length source)
+  pub given_few : (result : Result (List Module) ParseFault) → Answers source found result → IfOk result (λ modules. size_of modules ≤ length source)
   unfolding outcome_of limited
   given_few (Ok modules) a =
-      let r = file_rules most_open (state most_operators (words_of source found)) a.0 modules a.1 in
+      let r = file_size most_open (state most_operators (words_of source found)) a.0 modules a.1 in
       omega (arith, few_tokens source 0 found laid, length-map found (word_of source), r)
   given_few (Err f) a = tt
 

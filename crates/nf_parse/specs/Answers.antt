@@ -1,5 +1,7 @@
 -- What is answered of a source.
-use Rattle.std.specs.Prelude.{◌≡◌, ℕ, ◌+◌, ◌<◌, ◌⊎◌, Bool, true, false, List, [], ◌∷◌, ◌++◌, count_by, Ok}
+use Rattle.std.specs.Prelude.{◌≡◌, ℕ, ◌+◌, ◌<◌, ◌⊎◌, Bool, true, false, List, [], ◌∷◌, ◌++◌, length, flat_map, count_by, Ok}
+use Rattle.nf_core.specs.declared.trees.Entry.{Entry}
+use Rattle.nf_core.specs.declared.trees.Rule.{Rule}
 use Rattle.nf_core.specs.declared.trees.Module.{Module}
 use Rattle.nf_lex.specs.declared.token.Token.{Token}
 use Rattle.nf_lex.specs.Division.{Divides}
@@ -24,6 +26,18 @@ pub record Spells (source : List ℕ) (modules : List Module) : Type 0 where
   pub tokens : List Token
   pub divides : Divides source 0 (Ok tokens)
   pub file : IsFileWithin most_open most_operators (words_of source tokens) modules
+
+-- the rules of modules, in order
+abbrev pub rules_in : List Module → List Rule
+rules_in modules = flat_map (λ (m : Module). m.rules) modules
+
+-- the entries of the maps of rules, in order
+abbrev pub entries_in : List Rule → List Entry
+entries_in rules = flat_map (λ (rule : Rule). rule.entries) rules
+
+-- how many rules and entries of maps modules have
+abbrev pub size_of : List Module → ℕ
+size_of modules = length (rules_in modules) + length (entries_in (rules_in modules))
 
 -- a source has tokens, and whatever the limits are, their words are no word of `file`
 pub record HasNoModules (source : List ℕ) : Type 0 where

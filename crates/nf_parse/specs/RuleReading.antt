@@ -88,9 +88,13 @@ module _ (expression : Parser Expr) where
   unfoldable pub file : Parser (List Module)
   file = and_then (repeated is_some item) (λ items. done (modules_of items))
 
--- a module with a name, or the rules here, as long as one follows another, as a module without name
+-- the rules here, as long as one follows another, as a module without name
+abbrev pub run_of_rules : Parser Expr → Parser Module
+run_of_rules expression = and_then (rules expression) (λ rules. done (unnamed rules))
+
+-- a module with a name, or a run of rules
 unfoldable pub part : Parser Expr → Parser Module
-part expression = choose is_ident (and_then (rules expression) (λ rules. done (unnamed rules))) (module_word expression)
+part expression = choose is_ident (run_of_rules expression) (module_word expression)
 
 -- an expression with at most so many parentheses open at once as the limit is
 unfoldable pub limited : Parser Expr

@@ -12,7 +12,7 @@ use crate::clauses::or_empty;
 use crate::fault::Halt;
 use crate::literals::name_of;
 use crate::reader::Reader;
-use crate::rules::rules;
+use crate::rules::{rules, run_of_rules};
 use crate::symbol::Sym;
 use nf_core::{Module, ModuleList, Text, TextList};
 use std::alloc::Global;
@@ -98,8 +98,7 @@ fn module(alloc: Global, reader: &mut Reader<'_>) -> Result<Module, Halt>
     })
 }
 
-/// A module: the one that stands here, or the rules here, as long as one follows another, as a module
-/// without name.
+/// A module: the one that stands here, or the run of rules here.
 #[tactic(auto, unfolding(crate::specs::Parts::choose, crate::specs::RuleReading::part))]
 fn part(alloc: Global, reader: &mut Reader<'_>) -> Result<Module, Halt>
     requires { reader.old.operators ≤ most_operators }
@@ -108,12 +107,7 @@ fn part(alloc: Global, reader: &mut Reader<'_>) -> Result<Module, Halt>
     ensures shorter { OnOk result (length reader.new.words < length reader.old.words) }
 {
     if reader.is_at(Sym::Ident) {
-        let rules = rules(alloc, reader)?;
-        Ok(Module {
-            name: None,
-            imports: TextList::new(alloc),
-            rules,
-        })
+        run_of_rules(alloc, reader)
     } else {
         module(alloc, reader)
     }

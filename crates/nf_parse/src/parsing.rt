@@ -1,6 +1,6 @@
 //! The parser.
 
-ghost use Rattle.std.specs.Prelude.{◌≡◌, ◌≢◌, ◌⊎◌, ◌≤◌, ℕ, List, IfOk, Ok, Err, All, length, flat_map};
+ghost use Rattle.std.specs.Prelude.{◌≡◌, ◌≢◌, ◌⊎◌, ◌≤◌, ℕ, List, IfOk, Ok, Err, All, length};
 ghost use Rattle.nf_core.specs.Trees.{IsWritten};
 ghost use Rattle.nf_core.specs.declared.trees.Module.{Module};
 ghost use Rattle.nf_lex.specs.Division.{Divides};
@@ -8,7 +8,7 @@ ghost use Rattle.nf_lex.specs.Layout.{IsTokenOf, AreLaidOut};
 ghost use Rattle.nf_lex.specs.declared.fault.LexFault.{LexFault};
 ghost use Rattle.nf_lex.specs.declared.fault.LexFault.TheVariants as lexical;
 ghost use Rattle.nf_parse.specs.declared.fault.ParseFault.TheVariants as fault;
-ghost use Rattle.nf_parse.specs.Answers.{Spells, HasNoModules, IsTooDeep};
+ghost use Rattle.nf_parse.specs.Answers.{Spells, HasNoModules, IsTooDeep, rules_in, size_of};
 ghost use Rattle.nf_parse.specs.FileReading.{Answers};
 ghost use Rattle.nf_parse.specs.Parses.{Parses};
 
@@ -28,8 +28,8 @@ const MOST_OPERATORS: usize = 256;
 /// where its tokens are no specification whatever the limits are, `TooDeep` only where they are none within
 /// the limits and a limit is passed among them, each with a line counted from 1, that of the token where
 /// the reader stopped or of the end of the source; `NoMemory` where no memory was left. After an
-/// error nothing is left of the modules. The source is read in one pass over its tokens, and nothing of
-/// it is copied before a tree holds it.
+/// error nothing is left of the modules. A source has no more rules and entries of maps together than bytes.
+/// It is read in one pass over its tokens, and nothing of it is copied before a tree holds it.
 pub fn parse(alloc: Global, source: &[u8]) -> Result<ModuleList, ParseFault>
     ensures modules { IfOk result (λ modules. Spells source.now modules) }
     ensures only { (modules : List Module) → Spells source.now modules → (result ≡ Ok modules) ⊎ (result ≡ Err fault.NoMemory) }
@@ -38,8 +38,8 @@ pub fn parse(alloc: Global, source: &[u8]) -> Result<ModuleList, ParseFault>
     ensures grammar { (line : ℕ) → result ≡ Err (fault.Grammar line) → HasNoModules source.now }
     ensures too_deep { (line : ℕ) → result ≡ Err (fault.TooDeep line) → IsTooDeep source.now }
     ensures parses { (result ≡ Err fault.NoMemory) ⊎ Parses source.now result }
-    ensures written { IfOk result (λ modules. All IsWritten (flat_map (λ (m : Module). m.rules) modules)) }
-    ensures few { IfOk result (λ modules. length (flat_map (λ (m : Module). m.rules) modules) ≤ length source.now) }
+    ensures written { IfOk result (λ modules. All IsWritten (rules_in modules)) }
+    ensures few { IfOk result (λ modules. size_of modules ≤ length source.now) }
 {
     division_is_one();
     answer(alloc, source)
@@ -48,8 +48,8 @@ pub fn parse(alloc: Global, source: &[u8]) -> Result<ModuleList, ParseFault>
 /// The answer to a source.
 fn answer(alloc: Global, source: &[u8]) -> Result<ModuleList, ParseFault>
     ensures parses { (result ≡ Err fault.NoMemory) ⊎ Parses source.now result }
-    ensures written { IfOk result (λ modules. All IsWritten (flat_map (λ (m : Module). m.rules) modules)) }
-    ensures few { IfOk result (λ modules. length (flat_map (λ (m : Module). m.rules) modules) ≤ length source.now) }
+    ensures written { IfOk result (λ modules. All IsWritten (rules_in modules)) }
+    ensures few { IfOk result (λ modules. size_of modules ≤ length source.now) }
 {
     let found = tokens(alloc, source)?;
     answer_of(alloc, source, &found)
@@ -61,8 +61,8 @@ fn answer_of(alloc: Global, source: &[u8], found: &Tokens) -> Result<ModuleList,
     requires each { All (IsTokenOf source.now) found.now }
     requires laid_out { AreLaidOut source.now 0 found.now }
     ensures parses { (result ≡ Err fault.NoMemory) ⊎ Parses source.now result }
-    ensures written { IfOk result (λ modules. All IsWritten (flat_map (λ (m : Module). m.rules) modules)) }
-    ensures few { IfOk result (λ modules. length (flat_map (λ (m : Module). m.rules) modules) ≤ length source.now) }
+    ensures written { IfOk result (λ modules. All IsWritten (rules_in modules)) }
+    ensures few { IfOk result (λ modules. size_of modules ≤ length source.now) }
 {
     tokens_are_written();
     trees_by_parts();

@@ -13,7 +13,7 @@ use crate::fault::Halt;
 use crate::literals::name_of;
 use crate::reader::Reader;
 use crate::symbol::Sym;
-use nf_core::{Atom, Body, Op, Rule, RuleList, Text, Xop};
+use nf_core::{Atom, Body, Module, Op, Rule, RuleList, Text, TextList, Xop};
 use std::alloc::Global;
 
 /// The inclusive operator that a word is.
@@ -195,4 +195,19 @@ pub(crate) fn rules(alloc: Global, reader: &mut Reader<'_>) -> Result<RuleList, 
         rules.push(rule)?;
     }
     Ok(rules)
+}
+
+/// The rules here, as long as one follows another, as a module without name.
+pub(crate) fn run_of_rules(alloc: Global, reader: &mut Reader<'_>) -> Result<Module, Halt>
+    requires { reader.old.operators ≤ most_operators }
+    ensures reads { Reads (spec.run_of_rules spec.limited reader.old) result reader.new }
+    ensures within { IsWithin reader.old reader.new }
+    ensures shorter { is_at sym.Ident reader.old ≡ true → OnOk result (length reader.new.words < length reader.old.words) }
+{
+    let rules = rules(alloc, reader)?;
+    Ok(Module {
+        name: None,
+        imports: TextList::new(alloc),
+        rules,
+    })
 }
