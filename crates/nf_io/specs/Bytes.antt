@@ -24,6 +24,11 @@ abbrev pub TookPart : Option (List ℕ) → Option (List ℕ) → List ℕ → T
 TookPart before now text =
     IfSome now (λ after. IsSomeAnd before (λ first. (k : ℕ) × (k < length text) × (after ≡ first ++ take k text)))
 
+-- the same, and what was taken begins with the whole text
+abbrev pub TookAtLeast : Option (List ℕ) → Option (List ℕ) → List ℕ → Type 0
+TookAtLeast before now text =
+    IfSome now (λ after. IsSomeAnd before (λ first. (more : List ℕ) × (after ≡ first ++ text ++ more)))
+
 -- nothing was taken
 pub Took-none : (told : Option (List ℕ)) → Took told told []
 Took-none None = tt

@@ -9,9 +9,9 @@ use Rattle.std.proofs.lemmas.List.Folds.{list_any-append}
 use Rattle.std.proofs.lemmas.List.Sums.{split_at_first, passes_at_first}
 use Rattle.std.proofs.lemmas.List.Splits.{slice_split_at, slice_split_none}
 use Rattle.nf_line.specs.Lines.{cut, cut_off, line_limit, without_return, with_long_last}
-use Rattle.nf_line.specs.Line.{line, line_within, Faulty, Long}
-use Rattle.nf_line.specs.Cutting.{Content, Run, start, after_call, after_long, has_feed, before_feed, is_long, used_of, line_of, content_after, last_line, HasCut, IsLongBehind}
-use Rattle.nf_line.proofs.Feeds.{none_before, place_found}
+use Rattle.nf_line.specs.Line.{Line, line, line_within, Faulty, Long}
+use Rattle.nf_line.specs.Cutting.{Content, Run, start, after_call, after_long, has_feed, before_feed, is_long, used_of, line_of, content_after, last_line, IsContent, HasCut, IsLongBehind}
+use Rattle.nf_line.proofs.Feeds.{none_before, place_found, all_before}
 use Rattle.nf_line.proofs.Returns.{one_shorter}
 use Rattle.nf_line.proofs.Cuts.{parts_of, with_some_last, last_piece, cut_is, some_last-append, long_last-append, long_last-append_more, long_stays, goes_on, kept_no_feed, first_part}
 
@@ -88,6 +88,21 @@ next_call bytes lines content piece so_far short =
     rw h handed)
     (cases_Bool (has_feed piece))
 
+-- what it leaves can be kept
+kept_by : (b : Bool) (content : Content) (piece : List ℕ) → has_feed piece ≡ b → IsContent content → content.was_long ≡ false → length content.kept + length (before_feed piece) ≤ line_limit
+    → IsContent (record content { kept = cond b [] (content.kept ++ piece) })
+kept_by true content piece h valid short fits = record { within = omega arith; no_feed = refl; none_after_long = λ e. absurd (true≢false (sym e ∙ short)) }
+kept_by false content piece h valid short fits = record {
+  within = omega (arith, length-append content.kept piece, all_before (λ byte. eqb byte 10) piece h);
+  no_feed = list_any-append (λ byte. eqb byte 10) content.kept piece ∙ or_from _ _ valid.no_feed h;
+  none_after_long = λ e. absurd (true≢false (sym e ∙ short));
+}
+
+pub next_content : (content : Content) (piece : List ℕ) → IsContent content → is_long content piece ≡ false → IsContent (content_after content piece)
+next_content content piece valid short =
+    let sides = or_parts content.was_long (ltb line_limit (length content.kept + length (before_feed piece))) short in
+    kept_by (has_feed piece) content piece refl valid sides.0 (ltb-false _ _ sides.1)
+
 -- any calls, one after the other, as long as none was too long
 HasRun : Run → Type 0
 HasRun run = run.content.was_long ≡ false → HasCut run.bytes run.lines run.content.kept
@@ -161,7 +176,7 @@ meanings_broken_off bytes lines kept so_far h =
     ∙ meanings_within so_far.pieces so_far.within ∙ ap (map line_within) (sym so_far.lines_are)
 
 -- a line that is too long is a piece that is too long, whatever comes behind
-long_first : (first : List ℕ) (others : List (List ℕ)) → 0 < length first → (rest : List (List ℕ)) × (with_some_last (first ∷ others) ≡ first ∷ rest)
+pub long_first : (first : List ℕ) (others : List (List ℕ)) → 0 < length first → (rest : List (List ℕ)) × (with_some_last (first ∷ others) ≡ first ∷ rest)
 long_first first [] h = let e = ne_eqb (length first) 0 (λ e. absurd (omega arith)) in ([], rw e refl)
 long_first first (next ∷ others) h = (with_some_last (next ∷ others), refl)
 
@@ -217,3 +232,15 @@ long_piece_broken_off bytes lines content piece more so_far short long =
       beyond = part.beyond;
       all_are = ap with_long_last part.are ∙ long_last-append_more so_far.pieces part.first part.others ∙ ap (λ parts. so_far.pieces ++ parts) behind.1;
     }
+
+-- and its line is too long
+pub long_meaning : (bytes : List ℕ) (lines : List (List ℕ)) (content : Content) (piece : List ℕ) → HasCut bytes lines content.kept → content.was_long ≡ false → is_long content piece ≡ true
+    → (rest : List Line) × (map line (cut_off (bytes ++ piece)) ≡ map line_within lines ++ Faulty Long ∷ rest)
+long_meaning bytes lines content piece so_far short long =
+    let behind = long_piece_broken_off bytes lines content piece [] so_far short long in
+    let first : map line so_far.pieces ≡ map line_within lines = meanings_within so_far.pieces so_far.within ∙ ap (map line_within) (sym so_far.lines_are) in
+    let too_long = meaning_beyond behind.piece behind.beyond in (
+      map line behind.others,
+      ap (λ text. map line (cut_off text)) (sym (append-nil (bytes ++ piece))) ∙ ap (map line) behind.all_are ∙ map-append line so_far.pieces (behind.piece ∷ behind.others)
+          ∙ ap (λ ls. ls ++ line behind.piece ∷ map line behind.others) first ∙ ap (λ l. map line_within lines ++ l ∷ map line behind.others) too_long,
+    )

@@ -4,7 +4,7 @@ use Rattle.std.specs.List.{list_any, position, position_or_len, before_first}
 use Rattle.std.proofs.lemmas.Bool.{or_left, or_right, ltb-false, cases_lt, false≢true}
 use Rattle.std.proofs.lemmas.List.Folds.{list_any_none}
 use Rattle.std.proofs.lemmas.List.Quantifiers.{position-Some}
-use Rattle.std.proofs.lemmas.List.Sums.{fails_before_first}
+use Rattle.std.proofs.lemmas.List.Sums.{fails_before_first, passes_at_first}
 use Rattle.std.proofs.lemmas.List.{get_or-take, length-take}
 
 module _ {X : Type 0} (p : X → Bool) where
@@ -39,3 +39,11 @@ module _ {X : Type 0} (p : X → Bool) where
   place_found xs h = ⊎_elim (λ below. below)
       (λ past. absurd (false≢true (sym (list_any_none p xs (λ k d below. fails_before_first p xs k d (omega arith))) ∙ h)))
       (cases_lt (position_or_len p xs) (length xs))
+
+  -- where none passes, all stand before the first one that does
+  pub all_before : (xs : List X) → list_any p xs ≡ false → length (before_first p xs) ≡ length xs
+  all_before [] h = refl
+  all_before (x ∷ xs) h = ⊎_elim
+      (λ below. absurd (false≢true (sym h ∙ any_at (x ∷ xs) (position_or_len p (x ∷ xs)) x below (passes_at_first p (x ∷ xs) x below))))
+      (λ past. omega (arith, past, length-take (position_or_len p (x ∷ xs)) (x ∷ xs)))
+      (cases_lt (position_or_len p (x ∷ xs)) (length (x ∷ xs)))

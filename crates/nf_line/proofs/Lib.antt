@@ -9,3 +9,6 @@ pub mod PlainTexts
 pub mod Cells
 pub mod Cuts
 pub mod CutLines
+pub mod EndedLines
+pub mod KnownTrace
+pub mod PlainEvents

@@ -66,14 +66,14 @@ separators_covered byte a b =
 parts_bare : (text : List ℕ) → holds_mark text ≡ false → list_all is_bare (fields_of 59 text) ≡ true
 parts_bare = parts_hold_none (λ byte. eqb byte 59) (λ byte. eqb byte 124 || eqb byte 13 || eqb byte 10) is_separator separators_covered
 
-values_bare : (keys values : List ℕ) → holds_mark values ≡ false → list_all is_bare (values_in keys values) ≡ true
+pub values_bare : (keys values : List ℕ) → holds_mark values ≡ false → list_all is_bare (values_in keys values) ≡ true
 values_bare keys values h = here (is_empty keys && is_empty values)
   where
     here : (b : Bool) → list_all is_bare (cond b [] (fields_of 59 values)) ≡ true
     here true = refl
     here false = parts_bare values h
 
-zip_bare : (keys values : List (List ℕ)) → list_all is_bare values ≡ true → list_all (λ (pair : List ℕ × List ℕ). is_bare pair.1) (zip keys values) ≡ true
+pub zip_bare : (keys values : List (List ℕ)) → list_all is_bare values ≡ true → list_all (λ (pair : List ℕ × List ℕ). is_bare pair.1) (zip keys values) ≡ true
 zip_bare [] values h = refl
 zip_bare (key ∷ keys) [] h = refl
 zip_bare (key ∷ keys) (value ∷ values) h =

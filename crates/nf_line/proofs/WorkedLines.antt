@@ -7,7 +7,7 @@ use Rattle.nf_text.specs.Value.{spelling_of, whole_of}
 use Rattle.nf_line.specs.Lines.{cut, cut_off, without_return, with_long_last}
 use Rattle.nf_line.specs.Line.{line, Empty, Accepted, Faulty, NotText, Fields, Time, Key, Counts}
 use Rattle.nf_line.specs.Rows.{row_of}
-use Rattle.nf_line.specs.Trace.{trace_from, Done, Refused, TooLong, InNoForm, Falls}
+use Rattle.nf_line.specs.Trace.{trace_from, trace_over, Done, Refused, TooLong, InNoForm, Falls}
 
 -- lines that are refused
 refused_lines :
@@ -68,17 +68,17 @@ pieces_broken_off = refl
 -- times that fall: empty lines are counted, and the lines before the refused one are accepted
 falling : trace_from 1 None Done (codes "a|5" ∷ [] ∷ codes "a|4" ∷ codes "a" ∷ [])
     ≡ record { events = record { number = 1; name = codes "a"; time = pos 5; pairs = [] } ∷ []; ending = Refused 3 (Falls (pos 5) (pos 4)) }
-unfolding trace_from line without_return is_utf8 chars encode
+unfolding trace_over line without_return is_utf8 chars encode
 falling = refl
 
 -- a refused line ends the trace
 refused : trace_from 1 None Done (codes "a|5" ∷ codes "a" ∷ codes "b|6" ∷ [])
     ≡ record { events = record { number = 1; name = codes "a"; time = pos 5; pairs = [] } ∷ []; ending = Refused 2 (InNoForm Fields) }
-unfolding trace_from line without_return is_utf8 chars encode
+unfolding trace_over line without_return is_utf8 chars encode
 refused = refl
 
 -- a trace that is too long ends so where no line is refused
 too_long : trace_from 1 None TooLong (codes "a|5" ∷ codes "b|5" ∷ [])
     ≡ record { events = record { number = 1; name = codes "a"; time = pos 5; pairs = [] } ∷ record { number = 2; name = codes "b"; time = pos 5; pairs = [] } ∷ []; ending = TooLong }
-unfolding trace_from line without_return is_utf8 chars encode
+unfolding trace_over line without_return is_utf8 chars encode
 too_long = refl

@@ -1,5 +1,5 @@
 -- A trace: its accepted lines up to the first refused one, and how it ends.
-use Rattle.std.specs.Prelude.{ℕ, ◌+◌, ◌-◌, ◌^◌, ℤ, int_lt, nat_le, List, [], ◌∷◌, take, length, Option, Some, None, if◌then◌else◌}
+use Rattle.std.specs.Prelude.{ℕ, ◌+◌, ◌-◌, ◌^◌, ℤ, int_lt, nat_le, List, [], ◌∷◌, map, take, length, Option, Some, None, if◌then◌else◌}
 use Rattle.nf_core.specs.declared.values.Value as value
 use Rattle.nf_line.specs.Lines.{cut, cut_off}
 use Rattle.nf_line.specs.Line.{Line, Empty, Accepted, Faulty, Fault, line}
@@ -51,10 +51,14 @@ trace_at number last (Faulty fault) rest = refused number (InNoForm fault)
 trace_at number last (Accepted name time pairs) rest =
     judged_event (record { number = number; name = name; time = time; pairs = pairs }) (fallen last time) rest
 
--- the trace of some pieces in order, of which the first has this number, after an accepted line with this time; it ends so where no line is refused
-unfoldable pub trace_from : ℕ → Option ℤ → Ending → List (List ℕ) → Trace
-trace_from number last ending [] = record { events = []; ending = ending }
-trace_from number last ending (piece ∷ pieces) = trace_at number last (line piece) (λ kept. trace_from (number + 1) kept ending pieces)
+-- the trace of some lines in order, of which the first has this number, after an accepted line with this time; it ends so where no line is refused
+unfoldable pub trace_over : ℕ → Option ℤ → Ending → List Line → Trace
+trace_over number last ending [] = record { events = []; ending = ending }
+trace_over number last ending (line ∷ lines) = trace_at number last line (λ kept. trace_over (number + 1) kept ending lines)
+
+-- the trace of some pieces in order, each of which is a line
+abbrev pub trace_from : ℕ → Option ℤ → Ending → List (List ℕ) → Trace
+trace_from number last ending pieces = trace_over number last ending (map line pieces)
 
 -- a trace is too long where it has this many bytes, 2^63 - 1
 unfoldable pub trace_limit : ℕ
@@ -65,3 +69,7 @@ unfoldable pub trace : List ℕ → Trace
 trace bytes =
     if nat_le trace_limit (length bytes) then trace_from 1 None TooLong (cut_off (take trace_limit bytes))
     else trace_from 1 None Done (cut bytes)
+
+-- what is known of a trace of which these bytes were read, while more may come: its lines that ended, and one that is already too long
+abbrev pub trace_so_far : List ℕ → Trace
+trace_so_far bytes = trace_from 1 None Done (cut_off bytes)

@@ -1,6 +1,6 @@
 //! Cutting bytes that come in pieces into lines.
 
-ghost use Rattle.std.specs.Prelude.{◌≡◌, ◌↔◌, [], ◌++◌, length, false, IsTrue, IfOk, IfErr, IfSome, OnOk};
+ghost use Rattle.std.specs.Prelude.{◌≡◌, ◌≤◌, ◌↔◌, [], ◌++◌, length, false, IsTrue, IfOk, IfErr, IfSome, OnOk};
 ghost use Rattle.std.specs.Option.{option_copied};
 ghost use Rattle.std.specs.Borrow.{sem};
 ghost use Rattle.std.specs.Io.BufRead.{Rests};
@@ -49,6 +49,14 @@ impl Liner {
         }
     }
 
+    /// What is kept is no longer than a line may be, and no LF is among it. Does nothing: a proof
+    /// learns it.
+    pub fn keeps_a_line(&self)
+        ensures { IsContent self.now }
+    {
+        let _kept = &self.kept;
+    }
+
     /// Takes a piece up to its first LF and with it, or the whole piece where it has none. The line
     /// is None exactly where no LF stands in the piece; then the whole piece is kept. Otherwise the
     /// kept bytes and the piece up to its first LF are handed out as one line, without the LF and
@@ -60,6 +68,7 @@ impl Liner {
     pub fn next_line<'a>(&'a mut self, piece: &'a [u8]) -> Result<Taken<'a>, CutFault>
         ensures long { (result ≡ Err CutFault.Long) ↔ IsTrue (is_long self.old piece.now) }
         ensures taken { IfOk result (Takes self.old piece.now) }
+        ensures within { IfOk result (λ taken. taken.used ≤ length piece.now) }
         ensures line { IfOk result (λ taken. IfSome taken.line (λ line. CanBeRead line.now)) }
         ensures valid { IsContent self.old }
         ensures* after { sem 𝓛 (Rests the_row self.entry (λ after. after ≡ content_left self.old piece.now result)) }

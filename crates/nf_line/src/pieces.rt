@@ -1,6 +1,6 @@
 //! Pieces of bytes.
 
-ghost use Rattle.std.specs.Prelude.{◌≡◌, ◌==◌, false, position};
+ghost use Rattle.std.specs.Prelude.{◌≡◌, ◌<◌, ◌==◌, false, true, length, position};
 ghost use Rattle.nf_line.specs.Lines.{without_return};
 ghost use Rattle.nf_line.specs.Cutting.{before_feed, has_feed};
 
@@ -16,6 +16,7 @@ pub(crate) fn cut_piece(piece: &[u8]) -> Cut<'_>
     ensures before { result.before.now ≡ before_feed piece.now }
     ensures has_feed { result.has_feed ≡ has_feed piece.now }
     ensures whole { result.has_feed ≡ false → result.before.now ≡ piece.now }
+    ensures shorter { result.has_feed ≡ true → length result.before.now < length piece.now }
 {
     match feed_place(piece) {
         Some(place) => Cut {

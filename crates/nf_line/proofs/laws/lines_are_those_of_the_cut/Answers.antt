@@ -1,4 +1,4 @@
-use Rattle.nf_line.proofs.CutLines.{next_call, whole_run, lines_of_cut}
+use Rattle.nf_line.proofs.CutLines.{next_call, next_content, whole_run, lines_of_cut}
 use Rattle.nf_line.proofs.laws.lines_are_those_of_the_cut.Goals as goal
 
 pub returns-clause-step : goal.returns-clause-step
@@ -9,3 +9,6 @@ returns-clause-whole c = whole_run
 
 pub returns-clause-last : goal.returns-clause-last
 returns-clause-last c = lines_of_cut
+
+pub returns-clause-content : goal.returns-clause-content
+returns-clause-content c = next_content
