@@ -1,8 +1,8 @@
 -- Lists that grow by one item's part at a time.
-use Rattle.std.proofs.Common.{◌≡◌, ℕ, ◌+◌, Bool, true, false, cond, List, [], ◌∷◌, ◌++◌, take, map, filter, Some, refl, ap, sym, ◌∙◌, append_assoc, arith, if◌then◌else◌, slice_get}
+use Rattle.std.proofs.Common.{◌≡◌, ℕ, ◌+◌, Bool, true, false, cond, List, [], ◌∷◌, ◌++◌, take, map, filter, Some, All, refl, ap, sym, ◌∙◌, subst, append_assoc, arith, if◌then◌else◌, slice_get}
 use Rattle.std.specs.List.{range_with_len, flat_map}
 use Rattle.std.proofs.lemmas.List.{append-nil, take_more, map-id}
-use Rattle.std.proofs.lemmas.List.Elements.{filter-append}
+use Rattle.std.proofs.lemmas.List.Elements.{filter-append, All-tail}
 use Rattle.std.proofs.lemmas.List.FromFn.{map-range_with_len_more}
 use Rattle.std.proofs.lemmas.Grind.{flat_map-append}
 use Rattle.std.proofs.lemmas.Option.{slice_get_within, get_or_from_slice_get}
@@ -34,3 +34,11 @@ filtered_more f p begun so_far more xs ys x next so step =
     ∙ ap (λ zs. flat_map f (filter p xs) ++ zs) (one_filtered f p x) in
     step ∙ ap (λ zs. zs ++ (if p x then f x else [])) so ∙ append_assoc begun (flat_map f (filter p xs)) (if p x then f x else [])
     ∙ ap (λ zs. begun ++ zs) (sym parts)
+
+-- what holds of each item that is left holds of each after the next one
+pub All-rest : {X : Type 0} (P : X → Type 0) (left rest : List X) (x : X) → left ≡ x ∷ rest → All P left → All P rest
+All-rest P left rest x next h = All-tail P x rest (subst (All P) next h)
+
+-- what holds of each item holds of the one at a place
+pub All-at : {X : Type 0} (P : X → Type 0) (xs : List X) (i : ℕ) (x : X) → All P xs → slice_get xs i ≡ Some x → P x
+All-at P xs i x h is = subst P (get_or_from_slice_get xs i x x is) (h i x (slice_get_within xs i x is))

@@ -1,13 +1,17 @@
--- A worked example: the rules `w :- a` and `x :- w before b`, and their pools after the events `a` at 1, `a` at 2 and `b` at 3.
-use Rattle.std.specs.Prelude.{◌≡◌, ℕ, pos, true, false, List, [], ◌∷◌, codes, None, refl}
+-- Two worked examples: the rules `w :- a` and `x :- w before b` with their pools after the events `a` at 1, `a` at 2 and `b` at 3, and a rule with each clause.
+use Rattle.std.specs.Prelude.{◌≡◌, ℕ, pos, true, false, List, [], ◌∷◌, codes, None, Some, refl}
 use Rattle.nf_core.specs.Intervals.{Interval}
 use Rattle.nf_core.specs.Relations.{holds, span}
 use Rattle.nf_core.specs.Plan.{Plan}
 use Rattle.nf_core.specs.Written.{Levels, plan_of}
 use Rattle.nf_core.specs.declared.operators.Op.TheVariants.{Before}
+use Rattle.nf_core.specs.declared.operators.Xop.TheVariants.{After}
 use Rattle.nf_core.specs.declared.trees.Atom.{Atom}
 use Rattle.nf_core.specs.declared.trees.Body.{Body}
 use Rattle.nf_core.specs.declared.trees.Body.TheVariants as body
+use Rattle.nf_core.specs.declared.trees.Entry.{Entry}
+use Rattle.nf_core.specs.declared.trees.Expr.{Expr}
+use Rattle.nf_core.specs.declared.trees.Expr.TheVariants as expr
 use Rattle.nf_core.specs.declared.trees.Rule.{Rule}
 use Rattle.nf_model.specs.Results.{is_met, built, of_one, of_pair}
 use Rattle.nf_model.specs.Pools.{Inputs, pool, pool_below}
@@ -60,3 +64,37 @@ pub example_change : let content : Content = record { plan = example_plan; full 
     ≡ record { gone = record { name = 2; interval = times 1 5 } ∷ []; come = record { name = 0; interval = times 3 3 } ∷ record { name = 2; interval = times 3 5 } ∷ [] }
 unfolding pool_below is_met built of_one of_pair holds span
 example_change = refl
+
+-- a key of `a`, as an expression reads it
+abbrev pub key_of_a : List ℕ → Expr
+key_of_a key = expr.Key (codes "a") key
+
+-- the begin of `a`, as an expression reads it
+abbrev pub begin_of_a : Expr
+begin_of_a = expr.Start (codes "a")
+
+-- a map with the greater key first
+abbrev pub clause_entries : List Entry
+clause_entries = record { key = codes "m"; value = key_of_a (codes "j") } ∷ record { key = codes "b"; value = begin_of_a } ∷ []
+
+-- a rule with each clause: `x :- BODY where a.w map { m -> a.j, b -> a.begin } begin a.k end a.begin`
+abbrev pub clause_rule : Body → Rule
+clause_rule b = record {
+  head = codes "x";
+  body = b;
+  filter = Some (key_of_a (codes "w"));
+  entries = clause_entries;
+  start = Some (key_of_a (codes "k"));
+  stop = Some begin_of_a;
+}
+
+-- its bodies: `a`, and `a unless after b`
+abbrev pub one_atom : Body
+one_atom = body.One (atom_of (codes "a"))
+
+abbrev pub unless_after : Body
+unless_after = body.Unless (atom_of (codes "a")) After (atom_of (codes "b"))
+
+-- the levels of its names
+abbrev pub clause_levels : Levels
+clause_levels = (codes "x", 1) ∷ (codes "a", 0) ∷ (codes "b", 0) ∷ []

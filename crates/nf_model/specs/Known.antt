@@ -1,17 +1,19 @@
 -- Lists that are the pools of some names: how far an evaluation has come.
-use Rattle.std.specs.Prelude.{◌≡◌, ℕ, ◌<◌, Bool, length, All}
+use Rattle.std.specs.Prelude.{◌≡◌, ℕ, ◌<◌, Bool, length}
 use Rattle.nf_core.specs.Plan.{Plan, level_of}
-use Rattle.nf_model.specs.Built.{IsBuilt}
+use Rattle.nf_model.specs.Members.{AreOfKeys}
 use Rattle.nf_model.specs.Pools.{Inputs, of_name, pool}
 
--- the lists of the names below a level are their pools
+-- the lists of the names below a level are their pools, and each list has rows as long as its name's keys
 pub record AreKnown (plan : Plan) (full : Bool) (inputs : Inputs) (level : ℕ) (lists : Inputs) : Type 0 where
   pub each : length lists ≡ length plan.names
+  pub rows : AreOfKeys plan lists
   pub below : (n : ℕ) → n < length plan.names → level_of plan n < level → of_name lists n ≡ pool plan full inputs n
 
 -- and so are those of the names of that level that have a number below a given one
 pub record AreKnownUpTo (plan : Plan) (full : Bool) (inputs : Inputs) (level count : ℕ) (lists : Inputs) : Type 0 where
   pub each : length lists ≡ length plan.names
+  pub rows : AreOfKeys plan lists
   pub below : (n : ℕ) → n < length plan.names → level_of plan n < level → of_name lists n ≡ pool plan full inputs n
   pub here : (n : ℕ) → n < length plan.names → n < count → level_of plan n ≡ level → of_name lists n ≡ pool plan full inputs n
 
@@ -20,8 +22,8 @@ pub record ArePools (plan : Plan) (full : Bool) (inputs : Inputs) (lists : Input
   pub each : length lists ≡ length plan.names
   pub pools : (n : ℕ) → n < length plan.names → of_name lists n ≡ pool plan full inputs n
 
--- what an evaluator keeps: rules that it computes, the inputs of each name, and the pools of these inputs
+-- what an evaluator keeps: the inputs of each name with rows as long as its keys, and the pools of these inputs
 pub record IsEvaluated (plan : Plan) (full : Bool) (inputs pools : Inputs) : Type 0 where
-  pub built : All IsBuilt plan.rules
   pub each : length inputs ≡ length plan.names
+  pub rows : AreOfKeys plan inputs
   pub known : ArePools plan full inputs pools

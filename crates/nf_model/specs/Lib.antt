@@ -1,7 +1,10 @@
 pub mod Results
+pub mod Members
+pub mod Work
 pub mod Pools
 pub mod Changes
-pub mod Built
 pub mod PoolLaws
 pub mod Known
 pub mod Example
+pub mod ProperRows
+pub mod OperatorExample

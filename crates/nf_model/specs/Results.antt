@@ -60,6 +60,17 @@ interval_from None stop row = None
 unfoldable pub built : PlanRule → ℤ → ℤ → Interval → Option Interval → Option Interval
 built rule start stop i j = interval_from (end_point rule.start start i j) (end_point rule.stop stop i j) (row_of rule i j)
 
+-- the result that a rule builds from members, by its link: from an interval with its own span, from a pair with the operator's span, and of an exclusive rule from the first member alone, whatever the second one is
+unfoldable pub built_by : PlanRule → Link → Interval → Option Interval → Option Interval
+built_by rule One i second = built rule i.start i.stop i None
+built_by rule (Pair op n) i None = None
+built_by rule (Pair op n) i (Some j) = built rule (span i.start i.stop j.start j.stop op).0 (span i.start i.stop j.start j.stop op).1 i (Some j)
+built_by rule (Unless xop n) i second = built rule i.start i.stop i None
+
+-- the result that a rule builds from members
+abbrev pub built_from : PlanRule → Interval → Option Interval → Option Interval
+built_from rule i second = built_by rule rule.link i second
+
 -- what a rule with one atom gives from an interval: its span, where `where` is met
 unfoldable pub of_one : PlanRule → Interval → Option Interval
 of_one rule i = if is_met rule i None then built rule i.start i.stop i None else None

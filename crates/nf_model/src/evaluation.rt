@@ -1,15 +1,16 @@
 //! The pools of all names, computed anew from the inputs, level by level.
 
 ghost use Rattle.std.specs.Prelude.{◌≡◌, ◌==◌, ◌<◌, ℕ, [], ◌++◌, All, length, replicate, slice_set, ◌+◌, ◌≤◌, OnOk, IfOk, if◌then◌else◌};
-ghost use Rattle.nf_core.specs.Plan.{IsPlan, body_names, level_of};
-ghost use Rattle.nf_model.specs.Built.{IsBuilt};
-ghost use Rattle.nf_model.specs.Known.{AreKnown, AreKnownUpTo, ArePools};
-ghost use Rattle.nf_model.specs.Pools.{of_name, results_over, candidates_over, judged};
+ghost use Rattle.nf_core.specs.Plan.{body_names, level_of};
+ghost use Rattle.nf_model.specs.Known.{AreKnown, ArePools};
+ghost use Rattle.nf_model.specs.Members.{IsPlanned, HaveAllPlaces, AreOfKeys};
+ghost use Rattle.nf_model.specs.Pools.{of_name, second_of, results_over, candidates_over, judged};
 
 use crate::judging::judge;
 use crate::results::push_results;
-use nf_core::{IntervalList, IntervalSet, NoMemory, Plan, PlanRule, TryCopy};
+use nf_core::{IntervalList, IntervalSet, NoMemory, Plan, PlanRule, Steps, TryCopy};
 use std::alloc::Global;
+use std::sync::ledger::Ledger;
 
 /// The intervals of a set as a list.
 fn listed(alloc: Global, set: &IntervalSet) -> Result<IntervalList, NoMemory>
@@ -23,60 +24,65 @@ fn listed(alloc: Global, set: &IntervalSet) -> Result<IntervalList, NoMemory>
 }
 
 /// Puts the results of a rule at the end of a list, where its head has this number.
-fn push_results_of(
+fn push_results_of<L: Ledger>(
     alloc: Global,
     rule: &PlanRule,
     name: u32,
     pools: &[IntervalSet],
+    steps: &mut Steps<L>,
     out: &mut IntervalList,
 ) -> Result<(), NoMemory>
-    requires built { IsBuilt rule.now }
+    requires planned { IsPlanned rule.now }
     requires names { All (λ n. n < length pools.now) (body_names rule.now) }
+    requires places { HaveAllPlaces rule.now rule.now.link (of_name pools.now rule.now.first)
+        (second_of (of_name pools.now) rule.now.link) }
     ensures { OnOk result (out.new ≡ out.old
         ++ (if rule.now.head == name then results_over (of_name pools.now) rule.now else [])) }
 {
     if rule.head == name {
-        push_results(alloc, rule, pools, out)?;
+        push_results(alloc, rule, pools, steps, out)?;
     }
     Ok(())
 }
 
 /// The candidates of a name, where the pools of the names are these (`candidates_over` of
 /// specs/Pools).
-fn candidates(
+fn candidates<L: Ledger>(
     alloc: Global,
     plan: &Plan,
     inputs: &[IntervalSet],
     pools: &[IntervalSet],
     name: u32,
+    steps: &mut Steps<L>,
 ) -> Result<IntervalList, NoMemory>
-    requires built { All IsBuilt plan.now.rules }
     requires inputs { length inputs.now ≡ length plan.now.names }
     requires pools { length pools.now ≡ length plan.now.names }
+    requires rows { AreOfKeys plan.now pools.now }
     requires name { name < length plan.now.names }
     ensures { IfOk result (λ list. list
         ≡ candidates_over plan.now inputs.now (of_name pools.now) name) }
 {
     let mut out = listed(alloc, &inputs[name as usize])?;
     for rule in 0..plan.rules() {
-        push_results_of(alloc, plan.rule(rule), name, pools, &mut out)?;
+        push_results_of(alloc, plan.rule(rule), name, pools, steps, &mut out)?;
     }
     Ok(out)
 }
 
 /// Sets the list of a name to its judged candidates, where the name has this level.
-fn settle(
+fn settle<L: Ledger>(
     alloc: Global,
     plan: &Plan,
     full: bool,
     inputs: &[IntervalSet],
     level: u32,
     name: u32,
+    steps: &mut Steps<L>,
     pools: &mut Vec<IntervalSet>,
 ) -> Result<(), NoMemory>
-    requires built { All IsBuilt plan.now.rules }
     requires inputs { length inputs.now ≡ length plan.now.names }
     requires pools { length pools.old.items ≡ length plan.now.names }
+    requires rows { AreOfKeys plan.now pools.old.items }
     requires name { name < length plan.now.names }
     ensures { OnOk result (pools.new.items
         ≡ (if level_of plan.now name == level
@@ -85,28 +91,29 @@ fn settle(
         else pools.old.items)) }
 {
     if plan.level(name) == level {
-        let candidates = candidates(alloc, plan, inputs, pools.as_slice(), name)?;
+        let candidates = candidates(alloc, plan, inputs, pools.as_slice(), name, steps)?;
         pools[name as usize] = judge(alloc, full, candidates.as_slice())?;
     }
     Ok(())
 }
 
 /// Sets the lists of the names of a level to their pools, where those of the names below are.
-fn fill_level(
+fn fill_level<L: Ledger>(
     alloc: Global,
     plan: &Plan,
     full: bool,
     inputs: &[IntervalSet],
     level: u32,
+    steps: &mut Steps<L>,
     pools: &mut Vec<IntervalSet>,
 ) -> Result<(), NoMemory>
-    requires built { All IsBuilt plan.now.rules }
     requires inputs { length inputs.now ≡ length plan.now.names }
+    requires rows { AreOfKeys plan.now inputs.now }
     requires known { AreKnown plan.now full inputs.now level pools.old.items }
     ensures { OnOk result (AreKnown plan.now full inputs.now (level + 1) pools.new.items) }
 {
     for name in 0..plan.names() {
-        settle(alloc, plan, full, inputs, level, name, pools)?;
+        settle(alloc, plan, full, inputs, level, name, steps, pools)?;
     }
     Ok(())
 }
@@ -133,20 +140,22 @@ pub(crate) fn empty_sets(alloc: Global, names: u32) -> Result<Vec<IntervalSet>, 
     Ok(sets)
 }
 
-/// The pools of all names (`pool` of specs/Pools).
-pub(crate) fn pools_of(
+/// The pools of all names (`pool` of specs/Pools). The row of each input has a cell for each key of
+/// its name.
+pub(crate) fn pools_of<L: Ledger>(
     alloc: Global,
     plan: &Plan,
     full: bool,
     inputs: &[IntervalSet],
+    steps: &mut Steps<L>,
 ) -> Result<Vec<IntervalSet>, NoMemory>
-    requires built { All IsBuilt plan.now.rules }
     requires inputs { length inputs.now ≡ length plan.now.names }
+    requires rows { AreOfKeys plan.now inputs.now }
     ensures { IfOk result (λ pools. ArePools plan.now full inputs.now pools.items) }
 {
     let mut pools = empty_sets(alloc, plan.names())?;
     for level in 0..=highest_level(plan) {
-        fill_level(alloc, plan, full, inputs, level, &mut pools)?;
+        fill_level(alloc, plan, full, inputs, level, steps, &mut pools)?;
     }
     Ok(pools)
 }

@@ -1,10 +1,7 @@
 //! What holds of the definitions, as contracts of functions without a body.
 
-ghost use Rattle.std.specs.Prelude.{◌≡◌, ℕ, ◌<◌, Bool, List, length, All};
+ghost use Rattle.std.specs.Prelude.{◌≡◌, ℕ, ◌<◌, Bool, length};
 ghost use Rattle.nf_core.specs.Plan.{Plan, IsPlan};
-ghost use Rattle.nf_core.specs.Written.{Levels, plan_of};
-ghost use Rattle.nf_core.specs.declared.trees.Rule.{Rule};
-ghost use Rattle.nf_model.specs.Built.{IsBuilt, IsBuiltAsWritten};
 ghost use Rattle.nf_model.specs.Pools.{Inputs, pool, candidates, judged};
 
 /// The pools solve their equation: the pool of each name of a plan is its candidates, judged, and
@@ -13,11 +10,4 @@ pub fn pools_are_judged_candidates()
     ensures { (plan : Plan) (full : Bool) (inputs : Inputs) (n : ℕ) → IsPlan plan
         → n < length plan.names
         → pool plan full inputs n ≡ judged full (candidates plan full inputs n) }
-{}
-
-/// A plan that is made of rules of one atom or of two by `before`, without clauses, has such rules
-/// alone.
-pub fn plans_of_built_rules_are_built()
-    ensures { (rules : List Rule) (levels : Levels) → All IsBuiltAsWritten rules
-        → All IsBuilt (plan_of rules levels).rules }
 {}

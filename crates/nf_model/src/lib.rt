@@ -1,26 +1,37 @@
 //! The meaning of the rules over whole inputs, and the slow evaluator that computes it anew at
 //! each step.
 //!
-//! specs/Results has the results of a rule over whole lists, by all pairs; specs/Pools has the
-//! candidates and the pool of each name; specs/Changes has the content of an evaluator and what the
-//! pools of heads lose and gain. `Inferer` is what each evaluator promises by these definitions, and
-//! `Scratch` is the plainest one: `results` computes the results of a rule, `judging` which
-//! candidates are held, `evaluation` the pools level by level, and `changes` what differs. Below
-//! stands nf_core with its plans and intervals; above stands what reads traces and announces
-//! changes, over any `Inferer`.
+//! specs/Results has the clauses of a rule over its members, and its results over whole lists by all
+//! pairs; specs/Pools has the candidates and the pool of each name; specs/Changes has the content of
+//! an evaluator and what the pools of heads lose and gain. `is_met` and `build` carry out the clauses
+//! of a rule, with `maps` for the rows. `Inferer` is what each evaluator promises by these
+//! definitions, and `Scratch` is the plainest one: `results` computes the results of a rule, with
+//! `exclusive` for those of exclusive ones, `judging` which candidates are held, `evaluation` the
+//! pools level by level, and `changes` what differs. Below stand nf_core with its plans and
+//! intervals, nf_expr with the values of expressions and nf_relations with the operators; above
+//! stands what reads traces and announces changes, over any `Inferer`.
 #![tactic(auto)]
 
 mod changes;
+#[cfg(test)]
+mod clause_tests;
+mod clauses;
 mod evaluation;
+mod exclusive;
 mod inferers;
 mod judging;
 mod laws;
-mod relations;
+mod maps;
+#[cfg(test)]
+mod operator_tests;
 mod results;
+mod row_laws;
 mod scratches;
 #[cfg(test)]
 mod tests;
 
+pub use clauses::{build, is_met};
 pub use inferers::Inferer;
-pub use laws::{plans_of_built_rules_are_built, pools_are_judged_candidates};
+pub use laws::pools_are_judged_candidates;
+pub use row_laws::pools_have_proper_rows;
 pub use scratches::Scratch;

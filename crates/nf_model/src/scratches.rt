@@ -1,7 +1,6 @@
 //! The slow evaluator.
 
-ghost use Rattle.std.specs.Prelude.{◌≡◌, All, IfOk};
-ghost use Rattle.nf_model.specs.Built.{IsBuilt};
+ghost use Rattle.std.specs.Prelude.{◌≡◌, IfOk};
 ghost use Rattle.nf_model.specs.Changes.{no_inputs};
 
 use crate::changes::change_of;
@@ -40,14 +39,13 @@ impl Model for Scratch {
 
 impl Scratch {
     /// The evaluator of a plan, without inputs. Under `full` every candidate is held. The plan is
-    /// copied. Its rules are of one atom or of two by `before`, and have no clauses.
+    /// copied. Without inputs every pool is empty, so no expression is evaluated.
     pub fn new(alloc: Global, plan: &Plan, full: bool) -> Result<Scratch, NoMemory>
-        requires built { All IsBuilt plan.now.rules }
         ensures content { IfOk result (λ scratch. scratch ≡ no_inputs plan.now full) }
     {
         let inputs = empty_sets(alloc, plan.names())?;
+        let pools = empty_sets(alloc, plan.names())?;
         let plan = plan.copy(alloc)?;
-        let pools = pools_of(alloc, &plan, full, inputs.as_slice())?;
         Ok(Scratch {
             plan,
             full,
@@ -65,7 +63,7 @@ impl Inferer for Scratch {
         alloc: Global,
         name: u32,
         interval: Interval,
-        _steps: &mut Steps<L>,
+        steps: &mut Steps<L>,
     ) -> Result<(Scratch, Change), NoMemory> {
         let Scratch {
             plan,
@@ -74,7 +72,7 @@ impl Inferer for Scratch {
             pools: before,
         } = self;
         inputs[name as usize].insert(interval)?;
-        let pools = pools_of(alloc, &plan, full, inputs.as_slice())?;
+        let pools = pools_of(alloc, &plan, full, inputs.as_slice(), steps)?;
         let change = change_of(alloc, &plan, before.as_slice(), pools.as_slice())?;
         let scratch = Scratch {
             plan,

@@ -22,7 +22,7 @@ type Times = (u32, i64, i64);
 /// An interval that is entered, and what the heads lose and gain.
 type Step<'a> = (Times, &'a [Times], &'a [Times]);
 
-fn atom(alloc: Global, name: &str) -> Result<Atom, NoMemory>
+pub(crate) fn atom(alloc: Global, name: &str) -> Result<Atom, NoMemory>
     ensures { IfOk result (λ atom. atom ≡ atom_of name.now) }
 {
     Ok(Atom {

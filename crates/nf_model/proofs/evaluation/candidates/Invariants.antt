@@ -5,5 +5,5 @@ use Rattle.nf_model.proofs.evaluation.candidates.Given as goal
 
 -- the inputs, followed by the results of the rules so far
 abbrev pub invariant-loop-rule : goal.invariant-loop-rule
-invariant-loop-rule l =
+invariant-loop-rule g l =
     l.out ≡ of_name l.inputs l.name ++ flat_map (results_over (of_name l.pools)) (filter (λ (rule : PlanRule). rule.head == l.name) (take l.rule l.plan.rules))

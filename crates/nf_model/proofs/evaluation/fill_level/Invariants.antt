@@ -3,4 +3,4 @@ use Rattle.nf_model.proofs.evaluation.fill_level.Given as goal
 
 -- the names so far are known
 abbrev pub invariant-loop-name : goal.invariant-loop-name
-invariant-loop-name l = AreKnownUpTo l.plan l.full l.inputs l.level l.name l.pools.items
+invariant-loop-name g l = AreKnownUpTo l.plan l.full l.inputs l.level l.name l.pools.items
