@@ -1,0 +1,12 @@
+pub mod Lists
+pub mod Walks
+pub mod Search
+pub mod Counts
+pub mod Steps
+pub mod Reach
+pub mod Named
+pub mod OnCycle
+pub mod Heads
+pub mod Turned
+pub mod Bodies
+pub mod Numbers
