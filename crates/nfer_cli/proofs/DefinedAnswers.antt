@@ -7,16 +7,17 @@ use Rattle.nf_core.specs.declared.trees.Module.{Module}
 use Rattle.nf_io.specs.Files.{Files, bytes_of}
 use Rattle.nf_parse.specs.Parses.{Parses}
 use Rattle.nf_parse.specs.declared.fault.ParseFault.{ParseFault}
+use Rattle.nf_typing.specs.declared.fault.KindFault.{KindFault}
 use Rattle.nfer_cli.specs.Words.{Asked, Follow, trace_word}
 use Rattle.nfer_cli.specs.Sources.{specification_limit, sources_of, passing, AreParsed, none, more, refused, later}
-use Rattle.nfer_cli.specs.Specification.{rules_of, reads_earlier_heads}
+use Rattle.nfer_cli.specs.Specification.{rules_of, kind_fault, reads_earlier_heads}
 use Rattle.nfer_cli.specs.RuleLevels.{level_over, with_level, AreFound}
 use Rattle.nfer_cli.specs.Answers as answers
-use Rattle.nfer_cli.specs.Answers.{Answer, refusal, refused_at, followed, FollowDefines, too_long, unbuilt, planned, Defines}
+use Rattle.nfer_cli.specs.Answers.{Answer, refusal, refused_at, followed, FollowDefines, too_long, unbuilt, kinds, planned, Defines}
 use Rattle.nfer_cli.specs.declared.status.Status.TheVariants as status
 use Rattle.nfer_cli.proofs.RuleLevels.{read_by, AreSoFar, none_found, more_found}
 use Rattle.nfer_cli.proofs.NameLevels.{are_levels}
-use Rattle.nfer_cli.proofs.Built.{are_built}
+use Rattle.nfer_cli.proofs.EarlierHeads.{are_ordered}
 use Rattle.nfer_cli.proofs.Passing.{passing_not_in}
 
 -- levels with that of a rule's head raised over its body
@@ -76,12 +77,17 @@ SomeAnswer sources trace = (reads : ℕ) × (answer : Answer) × FollowDefines s
 pub within_answer : AreAnswered → (sources : List (List ℕ)) (trace : List ℕ) → passing specification_limit sources ≡ None → (reads : ℕ) × (answer : Answer) × FollowDefines sources trace reads answer × (length sources ≤ reads)
 within_answer answered sources trace fits = by (parsed_exist answered sources).0 (parsed_exist answered sources).1
   where
+    by_kinds : (modules : List Module) (rules : List Rule) (found : Option (ℕ × KindFault)) → AreParsed sources (Ok modules) → rules_of modules ≡ Some rules → kind_fault rules ≡ found → (reads : ℕ) × (answer : Answer) × FollowDefines sources trace reads answer × (length sources ≤ reads)
+    by_kinds modules rules None parsed e right =
+        let levels = levels_exist rules (are_ordered modules rules e).ordered in
+        let plan = plan_of rules levels.0 in
+        (suc (length sources), followed plan true trace, planned fits parsed e right (record { levels = levels.0; each_level = levels.1; made = refl }), omega arith)
+    by_kinds modules rules (Some found) parsed e wrong =
+        (length sources, refusal (status.Kinds found.0 found.1), kinds {number = found.0} {fault = found.1} fits parsed e wrong, omega arith)
+
     by_rules : (modules : List Module) (found : Option (List Rule)) → AreParsed sources (Ok modules) → rules_of modules ≡ found → (reads : ℕ) × (answer : Answer) × FollowDefines sources trace reads answer × (length sources ≤ reads)
     by_rules modules None parsed e = (length sources, refusal status.Unbuilt, unbuilt fits parsed e, omega arith)
-    by_rules modules (Some rules) parsed e =
-        let levels = levels_exist rules (are_built modules rules e).ordered in
-        let plan = plan_of rules levels.0 in
-        (suc (length sources), followed plan true trace, planned fits parsed e (record { levels = levels.0; each_level = levels.1; made = refl }), omega arith)
+    by_rules modules (Some rules) parsed e = by_kinds modules rules (kind_fault rules) parsed e refl
 
     by : (all : Result (List Module) (ℕ × ParseFault)) → AreParsed sources all → (reads : ℕ) × (answer : Answer) × FollowDefines sources trace reads answer × (length sources ≤ reads)
     by (Err e) parsed = (length sources, refusal (refused_at e.0 e.1), answers.refused {place = e.0} {fault = e.1} fits parsed, omega arith)

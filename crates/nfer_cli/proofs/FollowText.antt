@@ -4,7 +4,7 @@ use Rattle.std.specs.List.{range_with_len}
 use Rattle.nf_core.specs.Plan.{Plan}
 use Rattle.nf_model.specs.Changes.{Content, change, no_inputs}
 use Rattle.nfer_cli.specs.Announcements.{change_text}
-use Rattle.nfer_cli.specs.Trace.{Event}
+use Rattle.nf_line.specs.Trace.{Event}
 use Rattle.nfer_cli.specs.Follow.{entered, content_after, follow_text}
 use Rattle.nfer_cli.specs.Progress.{text_between, event_text, text_from}
 use Rattle.nfer_cli.proofs.Changed.{entered_plan}

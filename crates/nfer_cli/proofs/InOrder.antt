@@ -9,7 +9,7 @@ use Rattle.nfer_cli.specs.Announcements.{Announcement, announcement_cmp, placed,
 use Rattle.nfer_cli.specs.AnnouncementOrder.{announcement_cmp_total}
 use Rattle.nfer_cli.proofs.Ordered.{put, sorted_is_ordered}
 
-both_equal : (o p : Ordering) → ordering_then o p ≡ Equal → (o ≡ Equal) × (p ≡ Equal)
+pub both_equal : (o p : Ordering) → ordering_then o p ≡ Equal → (o ≡ Equal) × (p ≡ Equal)
 both_equal Less p e = absurd cc
 both_equal Equal p e = (refl, e)
 both_equal Greater p e = absurd cc
@@ -26,7 +26,7 @@ exact a b e =
     let rest = exact_bytes a.rest b.rest by_stop.1 in
     λ i. record { name = name i; start = start i; stop = stop i; rest = rest i }
 
-placed_is : (a : Announcement) (bs : List Announcement) → put announcement_cmp a bs ≡ placed a bs
+pub placed_is : (a : Announcement) (bs : List Announcement) → put announcement_cmp a bs ≡ placed a bs
 placed_is a [] = refl
 placed_is a (b ∷ bs) = ap (λ rest. cond (is_gt (announcement_cmp b a)) (a ∷ b ∷ bs) (b ∷ rest)) (placed_is a bs)
 

@@ -14,18 +14,20 @@ use Rattle.nf_core.specs.declared.trees.Module.{Module}
 use Rattle.nf_parse.specs.Parses.{Parses, settled as settled_source}
 use Rattle.nf_parse.specs.declared.fault.ParseFault.{ParseFault}
 use Rattle.nf_parse.specs.declared.fault.ParseFault.TheVariants as fault
+use Rattle.nf_typing.specs.declared.fault.KindFault.{KindFault}
 use Rattle.nfer_cli.specs.Words.{Asked, Follow, trace_word}
 use Rattle.nfer_cli.specs.Sources as of_sources
 use Rattle.nfer_cli.specs.Sources.{sources_of, AreParsed}
-use Rattle.nfer_cli.specs.Specification.{is_head_of, reads_earlier_heads, rules_of, IsPlanOf}
+use Rattle.nfer_cli.specs.Specification.{is_head_of, reads_earlier_heads, rules_of, kind_fault, IsPlanOf}
 use Rattle.nfer_cli.specs.RuleLevels.{level_over, AreFound}
 use Rattle.nfer_cli.specs.Answers as answers
-use Rattle.nfer_cli.specs.Answers.{Answer, refused_at, followed, FollowDefines, too_long, unbuilt, planned, Defines}
+use Rattle.nfer_cli.specs.Answers.{Answer, refused_at, followed, FollowDefines, too_long, unbuilt, kinds, planned, Defines}
 use Rattle.nfer_cli.specs.Settled.{settled, AreAlike, IsSameAnswer}
+use Rattle.nfer_cli.specs.declared.status.Status.TheVariants as status
 use Rattle.nfer_cli.proofs.Flat.{All-flat_map}
 use Rattle.nfer_cli.proofs.Bools.{both, neither}
 use Rattle.nfer_cli.proofs.RuleLevels.{read_by}
-use Rattle.nfer_cli.proofs.Built.{are_built}
+use Rattle.nfer_cli.proofs.EarlierHeads.{are_ordered}
 
 -- names that no rule of some has as its head
 abbrev AreNoHeads : List Rule → List (List ℕ) → Type 0
@@ -228,37 +230,64 @@ refused_alike place at fault.NoMemory fault.NoMemory e f = refl
 
 -- sources have no two answers
 one_follow_answer : AreOne → (sources : List (List ℕ)) (trace : List ℕ) (m n : ℕ) (a b : Answer) → FollowDefines sources trace m a → FollowDefines sources trace n b → IsSameAnswer m a n b
-one_follow_answer one sources trace m n a b (too_long {place} e) (too_long {place = at} f) = let same : place ≡ at = cc in record { reads = ap suc same; text = refl; status = refl }
+one_follow_answer one sources trace m n a b (too_long {place} e) (too_long {place = at} f) = let same : place ≡ at = cc in record { reads = ap suc same; text = refl; due_at = refl; status = refl }
 one_follow_answer one sources trace m n a b (too_long e) (answers.refused f q) = absurd cc
 one_follow_answer one sources trace m n a b (too_long e) (unbuilt f q s) = absurd cc
-one_follow_answer one sources trace m n a b (too_long e) (planned f q s t) = absurd cc
+one_follow_answer one sources trace m n a b (too_long e) (kinds f q s t) = absurd cc
+one_follow_answer one sources trace m n a b (too_long e) (planned f q s t u) = absurd cc
 one_follow_answer one sources trace m n a b (answers.refused e p) (too_long f) = absurd cc
 one_follow_answer one sources trace m n a b (answers.refused {place} {fault = why} e p) (answers.refused {place = at} {fault = other} f q) =
     let agreed = all_agree one sources (Err (place, why)) (Err (at, other)) p q in
-    record { reads = refl; text = refl; status = refused_alike place at why other agreed.0 agreed.1 }
-one_follow_answer one sources trace m n a b (answers.refused {place} {fault = why} e p) (unbuilt {modules} f q s) = absurd (all_agree one sources (Err (place, why)) (Ok modules) p q)
-one_follow_answer one sources trace m n a b (answers.refused {place} {fault = why} e p) (planned {modules} f q s t) = absurd (all_agree one sources (Err (place, why)) (Ok modules) p q)
+    record { reads = refl; text = refl; due_at = refl; status = refused_alike place at why other agreed.0 agreed.1 }
+one_follow_answer one sources trace m n a b (answers.refused {place} {fault = why} e p) (unbuilt {modules = others} f q s) = absurd (all_agree one sources (Err (place, why)) (Ok others) p q)
+one_follow_answer one sources trace m n a b (answers.refused {place} {fault = why} e p) (kinds {modules = others} f q s t) = absurd (all_agree one sources (Err (place, why)) (Ok others) p q)
+one_follow_answer one sources trace m n a b (answers.refused {place} {fault = why} e p) (planned {modules = others} f q s t u) = absurd (all_agree one sources (Err (place, why)) (Ok others) p q)
 one_follow_answer one sources trace m n a b (unbuilt e p r) (too_long f) = absurd cc
-one_follow_answer one sources trace m n a b (unbuilt {modules} e p r) (answers.refused {place} {fault = why} f q) = absurd (all_agree one sources (Ok modules) (Err (place, why)) p q)
-one_follow_answer one sources trace m n a b (unbuilt e p r) (unbuilt f q s) = record { reads = refl; text = refl; status = refl }
-one_follow_answer one sources trace m n a b (unbuilt {modules} e p r) (planned {modules = others} f q s t) =
+one_follow_answer one sources trace m n a b (unbuilt {modules} e p r) (answers.refused {place = at} {fault = other} f q) = absurd (all_agree one sources (Ok modules) (Err (at, other)) p q)
+one_follow_answer one sources trace m n a b (unbuilt e p r) (unbuilt f q s) = record { reads = refl; text = refl; due_at = refl; status = refl }
+one_follow_answer one sources trace m n a b (unbuilt {modules} e p r) (kinds {modules = others} f q s t) =
     let same = all_agree one sources (Ok modules) (Ok others) p q in
     let rules = ap rules_of same in absurd cc
-one_follow_answer one sources trace m n a b (planned e p r l) (too_long f) = absurd cc
-one_follow_answer one sources trace m n a b (planned {modules} e p r l) (answers.refused {place} {fault = why} f q) = absurd (all_agree one sources (Ok modules) (Err (place, why)) p q)
-one_follow_answer one sources trace m n a b (planned {modules} e p r l) (unbuilt {modules = others} f q s) =
+one_follow_answer one sources trace m n a b (unbuilt {modules} e p r) (planned {modules = others} f q s t u) =
     let same = all_agree one sources (Ok modules) (Ok others) p q in
     let rules = ap rules_of same in absurd cc
-one_follow_answer one sources trace m n a b (planned {modules} {rules} {plan} e p r l) (planned {modules = others} {rules = more_rules} {plan = other} f q s t) =
+one_follow_answer one sources trace m n a b (kinds e p r l) (too_long f) = absurd cc
+one_follow_answer one sources trace m n a b (kinds {modules} e p r l) (answers.refused {place = at} {fault = other} f q) = absurd (all_agree one sources (Ok modules) (Err (at, other)) p q)
+one_follow_answer one sources trace m n a b (kinds {modules} e p r l) (unbuilt {modules = others} f q s) =
+    let same = all_agree one sources (Ok modules) (Ok others) p q in
+    let rules = ap rules_of same in absurd cc
+one_follow_answer one sources trace m n a b (kinds {modules} {rules} {number} {fault = why} e p r l) (kinds {modules = others} {rules = more_rules} {number = line} {fault = other} f q s t) =
     let same = all_agree one sources (Ok modules) (Ok others) p q in
     let both_rules = ap rules_of same in
     let is : rules ≡ more_rules = cc in
-    let plans = one_plan rules plan other (are_built modules rules r).ordered l (subst (λ rs. IsPlanOf rs other) (sym is) t) in
-    record { reads = refl; text = ap (λ p. (followed p true trace).text) plans; status = ap (λ p. settled (followed p true trace).status) plans }
+    let found = ap kind_fault is in
+    let alike : ◌≡◌ {A = ℕ × KindFault} (number, why) (line, other) = cc in
+    record { reads = refl; text = refl; due_at = refl; status = ap (λ p. status.Kinds p.0 p.1) alike }
+one_follow_answer one sources trace m n a b (kinds {modules} {rules} e p r l) (planned {modules = others} {rules = more_rules} f q s t u) =
+    let same = all_agree one sources (Ok modules) (Ok others) p q in
+    let both_rules = ap rules_of same in
+    let is : rules ≡ more_rules = cc in
+    let found = ap kind_fault is in absurd cc
+one_follow_answer one sources trace m n a b (planned e p r l k) (too_long f) = absurd cc
+one_follow_answer one sources trace m n a b (planned {modules} e p r l k) (answers.refused {place = at} {fault = other} f q) = absurd (all_agree one sources (Ok modules) (Err (at, other)) p q)
+one_follow_answer one sources trace m n a b (planned {modules} e p r l k) (unbuilt {modules = others} f q s) =
+    let same = all_agree one sources (Ok modules) (Ok others) p q in
+    let rules = ap rules_of same in absurd cc
+one_follow_answer one sources trace m n a b (planned {modules} {rules} e p r l k) (kinds {modules = others} {rules = more_rules} f q s t) =
+    let same = all_agree one sources (Ok modules) (Ok others) p q in
+    let both_rules = ap rules_of same in
+    let is : rules ≡ more_rules = cc in
+    let found = ap kind_fault is in absurd cc
+one_follow_answer one sources trace m n a b (planned {modules} {rules} {plan} e p r l k) (planned {modules = others} {rules = more_rules} {plan = other} f q s t u) =
+    let same = all_agree one sources (Ok modules) (Ok others) p q in
+    let both_rules = ap rules_of same in
+    let is : rules ≡ more_rules = cc in
+    let plans = one_plan rules plan other (are_ordered modules rules r).ordered k (subst (λ rs. IsPlanOf rs other) (sym is) u) in
+    record { reads = refl; text = ap (λ p. (followed p true trace).text) plans; due_at = ap (λ p. (followed p true trace).due_at) plans; status = ap (λ p. settled (followed p true trace).status) plans }
 
 -- no question has two defined answers
 pub one_answer : AreOne → (asked : Option Asked) (files : Files) (m n : ℕ) (a b : Answer) → Defines asked files m a → Defines asked files n b → IsSameAnswer m a n b
 one_answer one None files m n a b is_a is_b =
     let same : a ≡ b = is_a.1 ∙ sym is_b.1 in
-    record { reads = is_a.0 ∙ sym is_b.0; text = ap (λ (x : Answer). x.text) same; status = ap (λ (x : Answer). settled x.status) same }
+    record { reads = is_a.0 ∙ sym is_b.0; text = ap (λ (x : Answer). x.text) same; due_at = ap (λ (x : Answer). x.due_at) same; status = ap (λ (x : Answer). settled x.status) same }
 one_answer one (Some (Follow names)) files m n a b is_a is_b = one_follow_answer one (sources_of files names) (bytes_of files trace_word) m n a b is_a is_b

@@ -89,7 +89,7 @@ module _ {K : Type 0} (R : K → K → Ordering) (o : IsTotalOrder R) where
       (sum_by-cons f a (b ∷ bs))
       (omega (arith, sum_by-cons f b (put R a bs)))
 
-  sum_all : (f : K → ℕ) (items bs : List K) → sum_by f (fold (λ bs a. put R a bs) bs items) ≡ sum_by f bs + sum_by f items
+  pub sum_all : (f : K → ℕ) (items bs : List K) → sum_by f (fold (λ bs a. put R a bs) bs items) ≡ sum_by f bs + sum_by f items
   sum_all f [] bs = omega arith
   sum_all f (a ∷ items) bs =
       let later = sum_all f items (put R a bs) in

@@ -6,13 +6,13 @@ use Rattle.std.proofs.lemmas.List.Elements.{All-append}
 use Rattle.std.proofs.lemmas.Grind.{flat_map-append}
 use Rattle.nf_core.specs.declared.trees.Rule.{Rule}
 use Rattle.nf_core.specs.declared.trees.Module.{Module}
+use Rattle.nf_parse.specs.Answers.{rules_in, entries_in, size_of}
 use Rattle.nf_parse.specs.Parses.{Parses}
 use Rattle.nf_parse.specs.declared.fault.ParseFault.{ParseFault}
 use Rattle.nf_parse.specs.declared.fault.ParseFault.TheVariants as fault
 use Rattle.nfer_cli.specs.Sources.{AreParsed, none, more, refused, later}
 use Rattle.nfer_cli.specs.Parsing.{joined, AreParsedTo, IsRefusal}
 use Rattle.nfer_cli.specs.Answers.{refused_at}
-use Rattle.nfer_cli.specs.ReadPlan.{all_rules}
 use Rattle.nfer_cli.proofs.Passing.{total, total_more}
 
 -- the answer to some sources
@@ -73,16 +73,24 @@ pub parsed_here : (source : List ℕ) (modules : List Module) (found : Result (L
 parsed_here source modules found is answered = ⊎_elim (λ (full : found ≡ Err fault.NoMemory). absurd cc) (λ (p : Parses source found). subst (Parses source) is p) answered
 
 -- the rules of the modules of one more source
-pub rules_more : (done modules now : List Module) → now ≡ done ++ modules → all_rules now ≡ all_rules done ++ all_rules modules
-rules_more done modules now is = ap all_rules is ∙ flat_map-append (λ (m : Module). m.rules) done modules
+pub rules_more : (done modules now : List Module) → now ≡ done ++ modules → rules_in now ≡ rules_in done ++ rules_in modules
+rules_more done modules now is = ap rules_in is ∙ flat_map-append (λ (m : Module). m.rules) done modules
+
+-- how much some modules have with those of one more source
+size_more : (done modules now : List Module) → now ≡ done ++ modules → size_of now ≡ size_of done + size_of modules
+size_more done modules now is =
+    let rules = rules_more done modules now is in
+    let entries : entries_in (rules_in now) ≡ entries_in (rules_in done) ++ entries_in (rules_in modules) = ap entries_in rules ∙ flat_map-append (λ (rule : Rule). rule.entries) (rules_in done) (rules_in modules) in
+    let more_rules : length (rules_in now) ≡ length (rules_in done) + length (rules_in modules) = ap length rules ∙ length-append (rules_in done) (rules_in modules) in
+    let more_entries : length (entries_in (rules_in now)) ≡ length (entries_in (rules_in done)) + length (entries_in (rules_in modules)) = ap length entries ∙ length-append (entries_in (rules_in done)) (entries_in (rules_in modules)) in
+    omega arith
 
 pub few_more : (sources : List (List ℕ)) (place : ℕ) (done modules now : List Module) (source : List ℕ) → place < length sources → source ≡ get_or sources place [] → now ≡ done ++ modules
-    → length (all_rules done) ≤ total (take place sources) → length (all_rules modules) ≤ length source → length (all_rules now) ≤ total (take (place + 1) sources)
+    → size_of done ≤ total (take place sources) → size_of modules ≤ length source → size_of now ≤ total (take (place + 1) sources)
 few_more sources place done modules now source low at is before here =
     let parts : take (place + 1) sources ≡ take place sources ++ source ∷ [] = take_more sources place [] low ∙ ap (λ s. take place sources ++ s ∷ []) (sym at) in
     let bytes : total (take (place + 1) sources) ≡ total (take place sources) + length source = ap total parts ∙ total_more (take place sources) source in
-    let count : length (all_rules now) ≡ length (all_rules done) + length (all_rules modules) = ap length (rules_more done modules now is) ∙ length-append (all_rules done) (all_rules modules) in
-    omega arith
+    omega (arith, size_more done modules now is)
 
-pub written_more : (P : Rule → Type 0) (done modules now : List Module) → now ≡ done ++ modules → All P (all_rules done) → All P (all_rules modules) → All P (all_rules now)
-written_more P done modules now is before here = subst (All P) (sym (rules_more done modules now is)) (All-append P (all_rules done) (all_rules modules) before here)
+pub written_more : (P : Rule → Type 0) (done modules now : List Module) → now ≡ done ++ modules → All P (rules_in done) → All P (rules_in modules) → All P (rules_in now)
+written_more P done modules now is before here = subst (All P) (sym (rules_more done modules now is)) (All-append P (rules_in done) (rules_in modules) before here)

@@ -1,31 +1,27 @@
 -- Where reading stood at the end of a call, from where that of its parts stood.
-use Rattle.std.proofs.Common.{◌≡◌, ℕ, ◌+◌, ◌-◌, ◌<◌, cond, List, [], ◌∷◌, ◌++◌, length, take, map, get_or, Option, Some, None, IfSome, refl, sym, ◌∙◌, ap, subst, arith}
-use Rattle.std.specs.Prelude.{slice_index_or, sum}
-use Rattle.std.proofs.lemmas.List.{get_or_append_left, take-map}
-use Rattle.std.proofs.Math.Seq.{get_or-append_seam}
-use Rattle.nf_io.specs.Files.{Files, bytes_of}
+use Rattle.std.proofs.Common.{◌≡◌, ℕ, ◌+◌, ◌<◌, true, List, [], length, take, Option, Some, None, IfSome, Err, refl, sym, ◌∙◌, ap, subst, arith, inl, inr, ⊎_elim}
+use Rattle.std.specs.Prelude.{◌⊎◌, slice_index_or}
+use Rattle.std.proofs.lemmas.List.{take-map}
+use Rattle.nf_core.specs.Plan.{Plan}
+use Rattle.nf_core.specs.declared.trees.Module.{Module}
+use Rattle.nf_io.specs.Files.{Files, bytes_of, asked_of}
+use Rattle.nf_parse.specs.declared.fault.ParseFault.{ParseFault}
+use Rattle.nf_parse.specs.declared.fault.ParseFault.TheVariants as fault
 use Rattle.nfer_cli.specs.Words.{trace_word}
-use Rattle.nfer_cli.specs.Answers.{trace_limit, IfReadFault, StandsShort, StandsPast, StandsAfter, allowed_at, TraceReadsTo, FollowReadsTo}
+use Rattle.nfer_cli.specs.Answers.{refused_at, IfReadFault, StandsShort, StandsPast, StandsAfter, allowed_at, LeftOfTrace, TraceReadsTo, FollowReadsTo}
+use Rattle.nfer_cli.specs.Ended.{EndsTrace}
+use Rattle.nfer_cli.specs.Parsing.{IsRefusal}
+use Rattle.nfer_cli.specs.ReadPlan.{IsUnplanned}
 use Rattle.nfer_cli.specs.Results.{IsTraceEnd, IsUnread}
-use Rattle.nfer_cli.specs.Sources.{specification_limit, sources_of}
+use Rattle.nfer_cli.specs.Sources.{specification_limit, sources_of, AreParsed}
 use Rattle.nfer_cli.specs.declared.status.Status.{Status}
 use Rattle.nfer_cli.specs.declared.status.Status.TheVariants as status
-use Rattle.nfer_cli.proofs.Passing.{total, is_within, is_over}
+use Rattle.nfer_cli.proofs.Passing.{total}
 
--- the trace, which is the file behind the others
-short_trace : (names : List (List ℕ)) (place : ℕ) (files : Files) (last rest : Option (List ℕ)) → length names ≡ place → StandsShort files trace_word trace_limit last rest
-    → StandsShort files (slice_index_or (names ++ trace_word ∷ []) place []) (allowed_at names files place) last rest
-short_trace names place files last rest count stands =
-    let name : trace_word ≡ get_or (names ++ trace_word ∷ []) place [] = sym (get_or-append_seam names trace_word [] []) ∙ ap (λ n. get_or (names ++ trace_word ∷ []) n []) count in
-    let most : trace_limit ≡ allowed_at names files place = sym (ap (λ b. cond b (specification_limit - sum (map length (take place (sources_of files names)))) trace_limit) (is_within place (length names) (omega arith))) in
-    subst (λ n. StandsShort files (slice_index_or (names ++ trace_word ∷ []) place []) n last rest) most
-    (subst (λ (name : List ℕ). StandsShort files name trace_limit last rest) name stands)
-
--- a file of a specification stands before the trace
-short_source : (names : List (List ℕ)) (place : ℕ) (files : Files) (last rest : Option (List ℕ)) → place < length names → StandsShort files (slice_index_or names place []) (allowed_at names files place) last rest
-    → StandsShort files (slice_index_or (names ++ trace_word ∷ []) place []) (allowed_at names files place) last rest
-short_source names place files last rest low stands =
-    subst (λ (name : List ℕ). StandsShort files name (allowed_at names files place) last rest) (sym (get_or_append_left names (trace_word ∷ []) [] place low)) stands
+-- where reading of the trace stood at each end of following it
+trace_reads_to : (s : Status) (files : Files) (last rest : Option (List ℕ)) → (s ≡ status.NoMemory) ⊎ (last ≡ Some (asked_of files trace_word)) → LeftOfTrace s (bytes_of files trace_word) rest → TraceReadsTo s files last rest
+trace_reads_to status.NoMemory files last rest asked left = tt
+trace_reads_to other files last rest asked left = (⊎_elim (λ e. absurd cc) (λ a. a) asked, left)
 
 trace_reads : (names : List (List ℕ)) (place : ℕ) (s : Status) (files : Files) (last rest : Option (List ℕ)) → length names ≡ place → IsTraceEnd place s → TraceReadsTo s files last rest → FollowReadsTo names s files last rest
 trace_reads names place status.Usage files last rest count kind reads = absurd kind
@@ -34,14 +30,41 @@ trace_reads names place (status.Lexical at fault) files last rest count kind rea
 trace_reads names place (status.Grammar at line) files last rest count kind reads = absurd kind
 trace_reads names place (status.TooDeep at line) files last rest count kind reads = absurd kind
 trace_reads names place status.Unbuilt files last rest count kind reads = absurd kind
-trace_reads names place (status.ReadFault at) files last rest count kind reads = short_trace names at files last rest (count ∙ sym kind) reads
+trace_reads names place (status.Kinds number fault) files last rest count kind reads = absurd kind
+trace_reads names place (status.ReadFault at) files last rest count kind reads = inr (kind ∙ sym count, reads)
 trace_reads names place other files last rest count kind reads = reads
 
 -- the trace was read, or reading it failed
-pub reads_trace : (told : Option Files) (place count : ℕ) (s : Status) (last_before rest_before last rest : Option (List ℕ)) → place ≡ count → IsTraceEnd place s → IfSome told (λ files. TraceReadsTo s files last rest)
+pub reads_trace : (told : Option Files) (plan : Plan) (place count : ℕ) (s : Status) (last_before rest_before last rest before now : Option (List ℕ)) → place ≡ count → IsTraceEnd place s
+    → IfSome told (λ files. (s ≡ status.NoMemory) ⊎ (last ≡ Some (asked_of files trace_word))) → IfSome told (λ files. EndsTrace plan true place (bytes_of files trace_word) s rest before now)
     → IfSome told (λ files. (names : List (List ℕ)) → length names ≡ count → StandsAfter names files last_before rest_before → FollowReadsTo names s files last rest)
-reads_trace None place count s last_before rest_before last rest is kind reads = tt
-reads_trace (Some files) place count s last_before rest_before last rest is kind reads = λ names long stands. trace_reads names place s files last rest (long ∙ sym is) kind reads
+reads_trace None plan place count s last_before rest_before last rest before now is kind asked ends = tt
+reads_trace (Some files) plan place count s last_before rest_before last rest before now is kind asked ends =
+    λ names long stands. trace_reads names place s files last rest (long ∙ sym is) kind (trace_reads_to s files last rest asked ends.left)
+
+-- a specification was refused, or memory was wanted for it, after all its files were read
+pub reads_refused : (told : Option Files) (sources : List (List ℕ)) (count : ℕ) (s : Status) (last rest : Option (List ℕ)) → IsRefusal sources s
+    → IfSome told (λ files. (names : List (List ℕ)) → length names ≡ count → StandsAfter names files last rest → FollowReadsTo names s files last rest)
+reads_refused None sources count s last rest why = tt
+reads_refused (Some files) sources count s last rest why = λ names long stands. ⊎_elim
+    (λ (full : s ≡ status.NoMemory). subst (λ (d : Status). FollowReadsTo names d files last rest) (sym full) tt)
+    (λ (at : (place : ℕ) × (why : ParseFault) × AreParsed sources (Err (place, why)) × (s ≡ refused_at place why)).
+    subst (λ (d : Status). FollowReadsTo names d files last rest) (sym at.3) (by names stands at.0 at.1))
+    why
+  where
+    by : (names : List (List ℕ)) → StandsAfter names files last rest → (place : ℕ) (why : ParseFault) → FollowReadsTo names (refused_at place why) files last rest
+    by names stands place (fault.Lex lexical) = stands
+    by names stands place (fault.Grammar line) = stands
+    by names stands place (fault.TooDeep line) = stands
+    by names stands place fault.NoMemory = tt
+
+pub reads_unplanned : (told : Option Files) (modules : List Module) (count : ℕ) (s : Status) (last rest : Option (List ℕ)) → IsUnplanned modules s
+    → IfSome told (λ files. (names : List (List ℕ)) → length names ≡ count → StandsAfter names files last rest → FollowReadsTo names s files last rest)
+reads_unplanned None modules count s last rest why = tt
+reads_unplanned (Some files) modules count status.Unbuilt last rest why = λ names long stands. stands
+reads_unplanned (Some files) modules count (status.Kinds number fault) last rest why = λ names long stands. stands
+reads_unplanned (Some files) modules count status.NoMemory last rest why = λ names long stands. tt
+reads_unplanned (Some files) modules count other last rest why = absurd why
 
 -- the files of a specification weren't all read
 pub reads_unread : (told : Option Files) (names : List (List ℕ)) (s : Status) (last rest : Option (List ℕ)) → IsUnread s → (s ≡ status.SpecificationTooLong → IfSome told (λ files. StandsPast names files last rest))
@@ -49,7 +72,7 @@ pub reads_unread : (told : Option Files) (names : List (List ℕ)) (s : Status) 
     → IfSome told (λ files. FollowReadsTo names s files last rest)
 reads_unread None names s last rest kind long low short = tt
 reads_unread (Some files) names status.SpecificationTooLong last rest kind long low short = long refl
-reads_unread (Some files) names (status.ReadFault place) last rest kind long low short = short_source names place files last rest low short
+reads_unread (Some files) names (status.ReadFault place) last rest kind long low short = inl (low, short)
 reads_unread (Some files) names status.NoMemory last rest kind long low short = tt
 reads_unread (Some files) names other last rest kind long low short = absurd kind
 
@@ -69,8 +92,7 @@ allowed_here : (files : Files) (names : List (List ℕ)) (place left : ℕ) (sou
     → left ≡ allowed_at names files place
 allowed_here files names place left sources low room known =
     let before : total (take place (sources_of files names)) ≡ total sources = ap total (take-map (bytes_of files) place names ∙ sym known) in
-    let least : left ≡ specification_limit - total (take place (sources_of files names)) = omega arith in
-    least ∙ sym (ap (λ b. cond b (specification_limit - total (take place (sources_of files names))) trace_limit) (is_over place (length names) low))
+    omega arith
 
 -- the file at a place couldn't be read
 pub short_here : (s : Status) (told now : Option Files) (names : List (List ℕ)) (place left : ℕ) (sources : List (List ℕ)) (last rest : Option (List ℕ)) → place < length names → total sources + left ≡ specification_limit

@@ -7,8 +7,7 @@ use Rattle.std.proofs.lemmas.List.Concat.{flat_map-append}
 use Rattle.nf_io.specs.Bytes.{Took, TookPart, TookPrefix, Took-none, TookPrefix-none, TookPrefix-whole, TookPrefix-after}
 use Rattle.nf_io.specs.Causes.{Rose, later-then_Rose}
 use Rattle.nfer_cli.specs.Answers.{Reports}
-use Rattle.nfer_cli.specs.Messages.{message}
-use Rattle.nfer_cli.specs.declared.status.Status.TheVariants as status
+use Rattle.nfer_cli.specs.Messages.{at_trace_line}
 
 -- less than the whole is a prefix
 part_is_prefix : (before now : Option (List ℕ)) (text : List ℕ) → TookPart before now text → TookPrefix before now text
@@ -51,18 +50,15 @@ nothing_reported told faults_before faults_now = record { whole = λ calm. Took-
 pub same_text : (before now : Option (List ℕ)) (faults_before faults_now : ℕ) (text message : List ℕ) → text ≡ message → Reports before now faults_before faults_now text → Reports before now faults_before faults_now message
 same_text before now faults_before faults_now text message same got = subst (λ t. Reports before now faults_before faults_now t) same got
 
--- seven texts one after the other
-seven_texts : (a b c d e f g : List ℕ) → a ++ (b ++ (c ++ (d ++ (e ++ (f ++ (g ++ [])))))) ≡ a ++ b ++ c ++ d ++ e ++ f ++ g
-seven_texts a b c d e f g = simp (append_assoc, append-nil)
+-- five texts one after the other, of which the second is a number's
+pub numbered_text : (before number after what end text : List ℕ) → text ≡ number → before ++ (text ++ (after ++ (what ++ (end ++ [])))) ≡ before ++ number ++ after ++ what ++ end
+numbered_text before number after what end text is = rw is (simp (append_assoc, append-nil))
 
--- the message of a time that falls
-abbrev order_text : List ℕ → List ℕ → List ℕ → List ℕ
-order_text line found kept = codes "nfer: line " ++ line ++ codes ": time " ++ found ++ codes " after " ++ kept ++ codes "\n"
+seven_texts : (before line after time found between kept end : List ℕ) → before ++ (line ++ ((after ++ time) ++ (found ++ (between ++ (kept ++ (end ++ [])))))) ≡ before ++ line ++ after ++ (time ++ found ++ between ++ kept) ++ end
+seven_texts before line after time found between kept end = simp (append_assoc, append-nil)
 
--- the message of a time that falls, from its texts
-pub order_message : (words : List (List ℕ)) (line : ℕ) (kept found : ℤ) (line_text found_text kept_text : List ℕ) → line_text ≡ decimal line → found_text ≡ signed_decimal found → kept_text ≡ signed_decimal kept
-    → codes "nfer: line " ++ (line_text ++ (codes ": time " ++ (found_text ++ (codes " after " ++ (kept_text ++ (codes "\n" ++ [])))))) ≡ message words (status.Order line kept found)
-unfolding message
-order_message words line kept found line_text found_text kept_text line_is found_is kept_is =
-    seven_texts (codes "nfer: line ") line_text (codes ": time ") found_text (codes " after ") kept_text (codes "\n")
-    ∙ ap (λ t. order_text t found_text kept_text) line_is ∙ ap (λ t. order_text (decimal line) t kept_text) found_is ∙ ap (λ t. order_text (decimal line) (signed_decimal found) t) kept_is
+-- the text of a time that falls, from its parts
+pub order_text : (line : ℕ) (kept found : ℤ) (line_text found_text kept_text : List ℕ) → line_text ≡ decimal line → found_text ≡ signed_decimal found → kept_text ≡ signed_decimal kept
+    → codes "nfer: line " ++ (line_text ++ (codes ": time " ++ (found_text ++ (codes " after " ++ (kept_text ++ (codes "\n" ++ [])))))) ≡ at_trace_line line (codes "time " ++ signed_decimal found ++ codes " after " ++ signed_decimal kept)
+order_text line kept found line_text found_text kept_text line_is found_is kept_is =
+    rw (line_is, found_is, kept_is) (seven_texts (codes "nfer: line ") (decimal line) (codes ": ") (codes "time ") (signed_decimal found) (codes " after ") (signed_decimal kept) (codes "\n"))

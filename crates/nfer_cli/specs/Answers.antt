@@ -1,33 +1,34 @@
 -- The defined answer to the words and the files, and how the end of a call stands to it.
-use Rattle.std.specs.Prelude.{◌≡◌, ◌⊎◌, ℕ, suc, ◌+◌, ◌-◌, ◌≤◌, ◌<◌, Bool, true, nat_lt, List, [], drop, take, map, sum, length, Ok, Err, Option, Some, None, IfSome, ⊤, slice_index_or, if◌then◌else◌}
+use Rattle.std.specs.Prelude.{◌≡◌, ◌⊎◌, ℕ, suc, ◌+◌, ◌-◌, ◌≤◌, ◌<◌, Bool, true, false, List, [], drop, take, map, sum, length, Ok, Err, Option, Some, None, IfSome, ⊤, slice_index_or}
 use Rattle.nf_core.specs.Plan.{Plan}
 use Rattle.nf_core.specs.Trees.{Rule}
 use Rattle.nf_core.specs.declared.trees.Module.{Module}
 use Rattle.nf_io.specs.Files.{Files, bytes_of, asked_of}
 use Rattle.nf_io.specs.Causes.{Rose}
-use Rattle.nf_io.specs.Bytes.{Took, TookPart, TookPrefix}
-use Rattle.nfer_cli.specs.Words.{Asked, Follow, file_words, trace_word}
+use Rattle.nf_io.specs.Bytes.{Took, TookAtLeast, TookPart, TookPrefix}
+use Rattle.nf_line.specs.Line.{Long, NotText, Fields, Time, Key, Counts}
+use Rattle.nf_line.specs.Trace.{Ending, Done, Refused, TooLong, InNoForm, Falls, trace, trace_limit, trace_so_far}
+use Rattle.nf_line.specs.declared.faults.LineFault.TheVariants as line_fault
+use Rattle.nf_line.specs.declared.faults.TraceFault.TheVariants as trace_fault
 use Rattle.nf_parse.specs.declared.fault.ParseFault.{ParseFault}
 use Rattle.nf_parse.specs.declared.fault.ParseFault.TheVariants as fault
+use Rattle.nf_typing.specs.declared.fault.KindFault.{KindFault}
+use Rattle.nfer_cli.specs.Words.{Asked, Follow, file_words, trace_word}
 use Rattle.nfer_cli.specs.Sources.{specification_limit, sources_of, passing, AreParsed}
-use Rattle.nfer_cli.specs.Specification.{rules_of, IsPlanOf}
-use Rattle.nfer_cli.specs.Trace.{Ending, Done, Refused, InNoForm, Falls, trace}
-use Rattle.nfer_cli.specs.Follow.{follow_text}
+use Rattle.nfer_cli.specs.Specification.{rules_of, kind_fault, IsPlanOf}
+use Rattle.nfer_cli.specs.Follow.{follow_text, due}
 use Rattle.nfer_cli.specs.declared.status.Status.{Status}
 use Rattle.nfer_cli.specs.declared.status.Status.TheVariants as status
 
--- what a command is to answer: the text for standard output, and the status, which shows the message
+-- what a command is to answer: the text for standard output, the text that is due when so many bytes of the trace were read, and the status, which shows the message
 pub record Answer : Type 0 where
   pub text : List ℕ
+  pub due_at : ℕ → List ℕ
   pub status : Status
 
 -- a refusal has no text
 abbrev pub refusal : Status → Answer
-refusal status = record { text = []; status = status }
-
--- the most bytes of a trace, which this stage reads whole
-abbrev pub trace_limit : ℕ
-trace_limit = 1048576
+refusal status = record { text = []; due_at = λ read. []; status = status }
 
 -- the most bytes of one read
 abbrev pub piece_limit : ℕ
@@ -36,14 +37,22 @@ piece_limit = 65536
 -- the status of the end of a trace
 abbrev pub status_of : Ending → Status
 status_of Done = status.Done
-status_of (Refused number InNoForm) = status.LineUnbuilt number
-status_of (Refused number (Falls kept found)) = status.Order number kept found
+status_of (Refused number (InNoForm Long)) = status.Trace (trace_fault.Long number)
+status_of (Refused number (InNoForm NotText)) = status.Trace (trace_fault.Line number line_fault.NotText)
+status_of (Refused number (InNoForm Fields)) = status.Trace (trace_fault.Line number line_fault.Fields)
+status_of (Refused number (InNoForm Time)) = status.Trace (trace_fault.Line number line_fault.Time)
+status_of (Refused number (InNoForm Key)) = status.Trace (trace_fault.Line number line_fault.Key)
+status_of (Refused number (InNoForm Counts)) = status.Trace (trace_fault.Line number line_fault.Counts)
+status_of (Refused number (Falls kept found)) = status.Trace (trace_fault.Order number kept found)
+status_of TooLong = status.Trace trace_fault.TooLong
 
--- `follow` over a plan and the bytes of a trace: the text of its accepted lines, and the status of its end; a trace that is too long comes before any line
+-- `follow` over a plan and the bytes of a trace: the text of its accepted lines, and the status of its end
 abbrev pub followed : Plan → Bool → List ℕ → Answer
-followed plan full bytes =
-    if nat_lt trace_limit (length bytes) then refusal status.TraceUnbuilt
-    else record { text = follow_text plan full (trace bytes).events; status = status_of (trace bytes).ending }
+followed plan full bytes = record {
+  text = follow_text plan full (trace bytes).events;
+  due_at = λ read. due plan full (take read bytes);
+  status = status_of (trace bytes).ending;
+}
 
 -- the status of a refused source, by its place among the files
 abbrev pub refused_at : ℕ → ParseFault → Status
@@ -53,18 +62,24 @@ refused_at place (fault.TooDeep line) = status.TooDeep place line
 refused_at place fault.NoMemory = status.NoMemory
 
 -- the answer of `follow --full` to the sources of a specification and the bytes of a trace, and how many files are read before it is known:
--- all sources together are too long, which is known with the source that passes the limit; or, all of them being read, one is refused, or they are in no form that this stage builds; or the trace is followed under their plan
+-- all sources together are too long, which is known with the source that passes the limit; or, all of them being read, one is refused, or they are in no form that this stage builds, or the kinds of a rule aren't right; or the trace is followed under their plan
 pub data FollowDefines (sources : List (List ℕ)) (bytes : List ℕ) : ℕ → Answer → Type 0 where
   too_long : {place : ℕ} → passing specification_limit sources ≡ Some place → FollowDefines sources bytes (suc place) (refusal status.SpecificationTooLong)
   refused : {place : ℕ} {fault : ParseFault} → passing specification_limit sources ≡ None → AreParsed sources (Err (place, fault)) → FollowDefines sources bytes (length sources) (refusal (refused_at place fault))
   unbuilt : {modules : List Module} → passing specification_limit sources ≡ None → AreParsed sources (Ok modules) → rules_of modules ≡ None → FollowDefines sources bytes (length sources) (refusal status.Unbuilt)
-  planned : {modules : List Module} {rules : List Rule} {plan : Plan} → passing specification_limit sources ≡ None → AreParsed sources (Ok modules) → rules_of modules ≡ Some rules → IsPlanOf rules plan
+  kinds : {modules : List Module} {rules : List Rule} {number : ℕ} {fault : KindFault} → passing specification_limit sources ≡ None → AreParsed sources (Ok modules) → rules_of modules ≡ Some rules → kind_fault rules ≡ Some (number, fault)
+      → FollowDefines sources bytes (length sources) (refusal (status.Kinds number fault))
+  planned : {modules : List Module} {rules : List Rule} {plan : Plan} → passing specification_limit sources ≡ None → AreParsed sources (Ok modules) → rules_of modules ≡ Some rules → kind_fault rules ≡ None → IsPlanOf rules plan
       → FollowDefines sources bytes (suc (length sources)) (followed plan true bytes)
 
 -- the defined answer to what is asked, over the files, and how many of the command's files are read before it is known
 abbrev pub Defines : Option Asked → Files → ℕ → Answer → Type 0
 Defines None files reads answer = (reads ≡ 0) × (answer ≡ refusal status.Usage)
 Defines (Some (Follow names)) files reads answer = FollowDefines (sources_of files names) (bytes_of files trace_word) reads answer
+
+-- the place of the trace among a command's files: it is the last one
+abbrev pub trace_place : Option Asked → ℕ
+trace_place asked = length (file_words asked) - 1
 
 -- a call ends with the defined status, or with a fault that comes before it, or with want of memory: a read fault comes only at a file that is read before the status is known
 abbrev pub EndsFor : ℕ → Status → Status → Type 0
@@ -73,25 +88,43 @@ EndsFor reads status.WriteFault defined = ⊤
 EndsFor reads status.NoMemory defined = ⊤
 EndsFor reads result defined = result ≡ defined
 
--- what was taken of the defined text: less than the whole where a write failed, a prefix where a read failed or memory was wanted, else the whole
-abbrev pub Wrote : Status → Option (List ℕ) → Option (List ℕ) → List ℕ → Type 0
-Wrote (status.ReadFault place) before now text = TookPrefix before now text
-Wrote status.WriteFault before now text = TookPart before now text
-Wrote status.NoMemory before now text = TookPrefix before now text
-Wrote result before now text = Took before now text
+-- so many bytes of a trace were read: none where it couldn't be picked, and else those before what is left of it
+abbrev pub WasRead : (bytes : List ℕ) (rest : Option (List ℕ)) → ℕ → Type 0
+WasRead bytes rest read = ((rest ≡ None) × (read ≡ 0)) ⊎ ((read ≤ length bytes) × (rest ≡ Some (drop read bytes)))
+
+-- what was taken where a read failed: nothing at a file before the trace, and at the trace the text of the lines that ended in the bytes read
+abbrev pub WroteShort : (trace place : ℕ) (answer : Answer) (bytes : List ℕ) (rest before now : Option (List ℕ)) → Type 0
+WroteShort trace place answer bytes rest before now =
+    ((place < trace) × Took before now []) ⊎ ((place ≡ trace) × (read : ℕ) × WasRead bytes rest read × Took before now (answer.due_at read))
+
+-- what was taken where a write failed: less than the whole, and of the text that was due before the last piece of the trace was read nothing is missing
+pub record WrotePart (answer : Answer) (bytes : List ℕ) (rest before now : Option (List ℕ)) : Type 0 where
+  pub read : ℕ
+  pub was_read : WasRead bytes rest read
+  pub earlier : ℕ
+  pub one_piece : (earlier ≤ read) × (read ≤ earlier + piece_limit)
+  pub due_is_written : TookAtLeast before now (answer.due_at earlier)
+  pub part : TookPart before now answer.text
+
+-- what was taken of the defined text: the whole of it, unless a read or a write failed or memory was wanted; then a prefix
+abbrev pub Wrote : Status → (trace : ℕ) (answer : Answer) (bytes : List ℕ) (rest before now : Option (List ℕ)) → Type 0
+Wrote (status.ReadFault place) trace answer bytes rest before now = WroteShort trace place answer bytes rest before now
+Wrote status.WriteFault trace answer bytes rest before now = WrotePart answer bytes rest before now
+Wrote status.NoMemory trace answer bytes rest before now = TookPrefix before now answer.text
+Wrote result trace answer bytes rest before now = Took before now answer.text
 
 -- a sink got a text: the whole of it unless the sink failed, and a prefix of it in any case
 pub record Reports (before now : Option (List ℕ)) (faults_before faults_now : ℕ) (text : List ℕ) : Type 0 where
   pub whole : ¬ Rose faults_before faults_now → Took before now text
   pub part : TookPrefix before now text
 
--- a call answered for a defined answer: by its status, and by what was taken of its text
-pub record Answers (Defined : ℕ → Answer → Type 0) (result : Status) (before now : Option (List ℕ)) : Type 0 where
+-- a call answered what is asked for over the files: with a status for a defined answer, and with what was taken of its text
+pub record Answers (asked : Option Asked) (files : Files) (result : Status) (rest before now : Option (List ℕ)) : Type 0 where
   pub reads : ℕ
   pub answer : Answer
-  pub defined : Defined reads answer
+  pub defined : Defines asked files reads answer
   pub ends : EndsFor reads result answer.status
-  pub writes : Wrote result before now answer.text
+  pub writes : Wrote result (trace_place asked) answer (bytes_of files trace_word) rest before now
 
 -- one of the files with these names couldn't be read: the shelf's faults rose, its last call failed, and it was asked for that file
 pub record CannotRead (names : List (List ℕ)) (place : ℕ) (files : Option Files) (before now : ℕ) (failed : Bool) (last : Option (List ℕ)) : Type 0 where
@@ -104,6 +137,11 @@ pub record CannotRead (names : List (List ℕ)) (place : ℕ) (files : Option Fi
 abbrev pub IfReadFault : Status → (ℕ → Type 0) → Type 0
 IfReadFault (status.ReadFault place) P = P place
 IfReadFault result P = ⊤
+
+-- whether a status is a read fault
+abbrev pub is_read_fault : Status → Bool
+is_read_fault (status.ReadFault place) = true
+is_read_fault other = false
 
 -- the shelf stands in a file of which at most this many bytes were read
 pub record StandsIn (files : Files) (name : List ℕ) (most : ℕ) (last rest : Option (List ℕ)) : Type 0 where
@@ -121,15 +159,44 @@ pub record StandsAtEnd (files : Files) (name : List ℕ) (last rest : Option (Li
 abbrev pub StandsShort : Files → List ℕ → ℕ → Option (List ℕ) → Option (List ℕ) → Type 0
 StandsShort files name most last rest = (rest ≡ None) ⊎ StandsIn files name most last rest
 
--- where reading of the trace stood at the end: it was read whole before the first write, or, where it is too long, to one piece past the limit at most, or, where a read failed, within the limit
+-- reading of a trace ended with its last piece: before that was read no refusal was known and the limit wasn't reached, so fewer than 65,536 bytes were read past the byte that shows a refusal, and none past the limit
+pub record LeftBehindPiece (bytes : List ℕ) (rest : Option (List ℕ)) : Type 0 where
+  pub read : ℕ
+  pub within : (read ≤ length bytes) × (read ≤ trace_limit)
+  pub rest_is : rest ≡ Some (drop read bytes)
+  pub earlier : ℕ
+  pub one_piece : (earlier ≤ read) × (read ≤ earlier + piece_limit)
+  pub goes_on : earlier < trace_limit
+  pub unrefused : (trace_so_far (take earlier bytes)).ending ≡ Done
+
+-- so many bytes of a trace were read as make it too long, and no more
+pub record LeftAtLimit (bytes : List ℕ) (rest : Option (List ℕ)) : Type 0 where
+  pub enough : trace_limit ≤ length bytes
+  pub rest_is : rest ≡ Some (drop trace_limit bytes)
+
+-- fewer bytes of a trace were read than make it too long, and no refusal is known of the lines that ended in them
+pub record LeftUnrefused (bytes : List ℕ) (rest : Option (List ℕ)) : Type 0 where
+  pub read : ℕ
+  pub within : read ≤ length bytes
+  pub rest_is : rest ≡ Some (drop read bytes)
+  pub goes_on : read < trace_limit
+  pub unrefused : (trace_so_far (take read bytes)).ending ≡ Done
+
+-- what is left of a trace at each status: nothing where all is done; where a line is refused or a write failed, what stands behind the last piece; at the limit, what stands behind it; where a read failed, what stands behind a place where no refusal was known, if it was picked at all; and where memory was wanted, anything
+abbrev pub LeftOfTrace : Status → (bytes : List ℕ) (rest : Option (List ℕ)) → Type 0
+LeftOfTrace status.Done bytes rest = rest ≡ Some []
+LeftOfTrace (status.Trace (trace_fault.Long number)) bytes rest = LeftBehindPiece bytes rest
+LeftOfTrace (status.Trace (trace_fault.Line number fault)) bytes rest = LeftBehindPiece bytes rest
+LeftOfTrace (status.Trace (trace_fault.Order number kept found)) bytes rest = LeftBehindPiece bytes rest
+LeftOfTrace (status.Trace trace_fault.TooLong) bytes rest = LeftAtLimit bytes rest
+LeftOfTrace (status.ReadFault place) bytes rest = (rest ≡ None) ⊎ LeftUnrefused bytes rest
+LeftOfTrace status.WriteFault bytes rest = LeftBehindPiece bytes rest
+LeftOfTrace other bytes rest = ⊤
+
+-- where reading stood at the end, once the trace was asked for
 abbrev pub TraceReadsTo : Status → Files → Option (List ℕ) → Option (List ℕ) → Type 0
-TraceReadsTo status.TraceUnbuilt files last rest = StandsIn files trace_word (trace_limit + piece_limit) last rest
-TraceReadsTo (status.ReadFault place) files last rest = StandsShort files trace_word trace_limit last rest
-TraceReadsTo status.Done files last rest = StandsAtEnd files trace_word last rest
-TraceReadsTo (status.LineUnbuilt line) files last rest = StandsAtEnd files trace_word last rest
-TraceReadsTo (status.Order line kept found) files last rest = StandsAtEnd files trace_word last rest
-TraceReadsTo status.WriteFault files last rest = StandsAtEnd files trace_word last rest
-TraceReadsTo other files last rest = ⊤
+TraceReadsTo status.NoMemory files last rest = ⊤
+TraceReadsTo result files last rest = (last ≡ Some (asked_of files trace_word)) × LeftOfTrace result (bytes_of files trace_word) rest
 
 -- the files of a specification were read up to the one with which they are too long, and of that one to one piece past the limit at most
 pub record StandsPast (names : List (List ℕ)) (files : Files) (last rest : Option (List ℕ)) : Type 0 where
@@ -141,18 +208,25 @@ pub record StandsPast (names : List (List ℕ)) (files : Files) (last rest : Opt
 abbrev pub StandsAfter : List (List ℕ) → Files → Option (List ℕ) → Option (List ℕ) → Type 0
 StandsAfter names files last rest = StandsAtEnd files (slice_index_or names (length names - 1) []) last rest
 
--- how many bytes are allowed of the command's file at a place: of a specification's file what the files before it leave of the limit, and of the trace, behind them, its own limit
+-- how many bytes are allowed of the specification's file at a place: what the files before it leave of the limit
 abbrev pub allowed_at : List (List ℕ) → Files → ℕ → ℕ
-allowed_at names files place = if nat_lt place (length names) then specification_limit - sum (map length (take place (sources_of files names))) else trace_limit
+allowed_at names files place = specification_limit - sum (map length (take place (sources_of files names)))
 
--- where reading stood at the end: no read is made after a refusal is known, and at most one piece was read past the byte that shows it; a read fault comes only at a read of a file of which no more than the allowed bytes were read before
+-- where reading stood where a read of a file failed: in a file of the specification no more than the allowed bytes were read before, and in the trace no refusal was known
+abbrev pub ReadShort : List (List ℕ) → ℕ → Files → Option (List ℕ) → Option (List ℕ) → Type 0
+ReadShort names place files last rest =
+    ((place < length names) × StandsShort files (slice_index_or names place []) (allowed_at names files place) last rest)
+    ⊎ ((place ≡ length names) × TraceReadsTo (status.ReadFault place) files last rest)
+
+-- where reading stood at the end: no read is made after a refusal is known, and at most one piece was read past the byte that shows it
 abbrev pub FollowReadsTo : List (List ℕ) → Status → Files → Option (List ℕ) → Option (List ℕ) → Type 0
 FollowReadsTo names status.SpecificationTooLong files last rest = StandsPast names files last rest
 FollowReadsTo names (status.Lexical place fault) files last rest = StandsAfter names files last rest
 FollowReadsTo names (status.Grammar place line) files last rest = StandsAfter names files last rest
 FollowReadsTo names (status.TooDeep place line) files last rest = StandsAfter names files last rest
 FollowReadsTo names status.Unbuilt files last rest = StandsAfter names files last rest
-FollowReadsTo names (status.ReadFault place) files last rest = StandsShort files (slice_index_or (file_words (Some (Follow names))) place []) (allowed_at names files place) last rest
+FollowReadsTo names (status.Kinds number fault) files last rest = StandsAfter names files last rest
+FollowReadsTo names (status.ReadFault place) files last rest = ReadShort names place files last rest
 FollowReadsTo names result files last rest = TraceReadsTo result files last rest
 
 -- where reading stood at the end of a call, by what is asked: words in no form leave the shelf as it was

@@ -1,21 +1,16 @@
 -- What `follow` writes: the text of each line's change, every prefix of the trace computed anew.
-use Rattle.std.specs.Prelude.{ℕ, ◌+◌, Bool, List, map, fold, flat_map, reverse, take, length, position, bytes_eq, Option, Some, None}
+use Rattle.std.specs.Prelude.{ℕ, ◌+◌, Bool, List, fold, flat_map, take, length, position, bytes_eq, Option, Some, None}
 use Rattle.std.specs.List.{range_with_len}
-use Rattle.std.specs.Map.{lookup}
-use Rattle.nf_core.specs.declared.values.Value as value
 use Rattle.nf_core.specs.Plan.{Plan, keys_of}
+use Rattle.nf_line.specs.Rows.{row_of}
+use Rattle.nf_line.specs.Trace.{Event, trace_so_far}
 use Rattle.nf_model.specs.Changes.{Content, with_input, change, no_inputs}
 use Rattle.nfer_cli.specs.Announcements.{change_text}
-use Rattle.nfer_cli.specs.Trace.{Event}
-
--- the row of a name from some pairs: each of its keys has the value of its last pair, or is missing
-abbrev pub row_from : Plan → ℕ → List (List ℕ × value.Value) → List (Option value.Value)
-row_from plan n pairs = map (λ key. lookup (bytes_eq key) (reverse pairs)) (keys_of plan n)
 
 -- an event enters the inputs of its name, where the plan has the name
 abbrev pub entered_at : Content → Event → Option ℕ → Content
 entered_at content event None = content
-entered_at content event (Some n) = with_input n (record { start = event.time; stop = event.time; row = row_from content.plan n event.pairs }) content
+entered_at content event (Some n) = with_input n (record { start = event.time; stop = event.time; row = row_of (keys_of content.plan n) event.pairs }) content
 
 abbrev pub entered : Content → Event → Content
 entered content event = entered_at content event (position (bytes_eq event.name) content.plan.names)
@@ -31,3 +26,7 @@ text_at plan full events place = change_text plan (change (content_after plan fu
 -- the text of all events
 unfoldable pub follow_text : Plan → Bool → List Event → List ℕ
 follow_text plan full events = flat_map (text_at plan full events) (range_with_len 0 (length events))
+
+-- the text that is due where these bytes of a trace were read, while more may come: that of the lines that ended in them
+abbrev pub due : Plan → Bool → List ℕ → List ℕ
+due plan full bytes = follow_text plan full (trace_so_far bytes).events

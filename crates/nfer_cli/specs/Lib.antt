@@ -1,9 +1,6 @@
-pub mod Lines
 pub mod Announcements
 pub mod AnnouncementOrder
 pub mod Cells
-pub mod Trace
-pub mod Readings
 pub mod Follow
 pub mod Replay
 pub mod Sources
@@ -21,4 +18,5 @@ pub mod Reading
 pub mod Results
 pub mod Faults
 pub mod Progress
+pub mod Ended
 pub mod Example

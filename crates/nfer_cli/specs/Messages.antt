@@ -3,6 +3,12 @@ use Rattle.std.specs.Prelude.{ℕ, List, [], ◌++◌, codes, decimal}
 use Rattle.std.specs.Fmt.{signed_decimal}
 use Rattle.nf_lex.specs.declared.fault.LexFault.{LexFault}
 use Rattle.nf_lex.specs.declared.fault.LexFault.TheVariants as lexical
+use Rattle.nf_line.specs.declared.faults.LineFault.{LineFault}
+use Rattle.nf_line.specs.declared.faults.LineFault.TheVariants as line_fault
+use Rattle.nf_line.specs.declared.faults.TraceFault.{TraceFault}
+use Rattle.nf_line.specs.declared.faults.TraceFault.TheVariants as trace_fault
+use Rattle.nf_typing.specs.declared.fault.KindFault.{KindFault}
+use Rattle.nf_typing.specs.declared.fault.KindFault.TheVariants as kind
 use Rattle.nfer_cli.specs.Words.{file_word}
 use Rattle.nfer_cli.specs.declared.status.Status.{Status}
 use Rattle.nfer_cli.specs.declared.status.Status.TheVariants as status
@@ -29,6 +35,33 @@ fault_line lexical.NoMemory = 0
 abbrev pub at_line : List ℕ → ℕ → List ℕ → List ℕ
 at_line file line what = codes "nfer: " ++ file ++ codes ":" ++ decimal line ++ codes ": " ++ what ++ codes "\n"
 
+-- what is shown of a rule's kinds
+abbrev pub kind_text : KindFault → List ℕ
+kind_text kind.UnknownLabel = codes "unknown label"
+kind_text kind.SameLabel = codes "same label"
+kind_text kind.WrongKind = codes "wrong kind"
+kind_text kind.SecondLabel = codes "second label"
+kind_text kind.SameKey = codes "same key"
+
+-- what is shown of a line's fault
+abbrev pub line_text : LineFault → List ℕ
+line_text line_fault.NotText = codes "not text"
+line_text line_fault.Fields = codes "fields"
+line_text line_fault.Time = codes "time"
+line_text line_fault.Key = codes "key"
+line_text line_fault.Counts = codes "counts"
+
+-- a refusal of a line of the trace, by its number
+abbrev pub at_trace_line : ℕ → List ℕ → List ℕ
+at_trace_line number what = codes "nfer: line " ++ decimal number ++ codes ": " ++ what ++ codes "\n"
+
+-- the message of a refused trace
+unfoldable pub trace_message : TraceFault → List ℕ
+trace_message (trace_fault.Long number) = at_trace_line number (codes "long")
+trace_message (trace_fault.Line number fault) = at_trace_line number (line_text fault)
+trace_message (trace_fault.Order number kept found) = at_trace_line number (codes "time " ++ signed_decimal found ++ codes " after " ++ signed_decimal kept)
+trace_message trace_fault.TooLong = codes "nfer: input too long\n"
+
 -- the message of a status, and nothing where all is done
 unfoldable pub message : List (List ℕ) → Status → List ℕ
 message words status.Done = []
@@ -38,9 +71,8 @@ message words (status.Lexical place fault) = at_line (file_word words place) (fa
 message words (status.Grammar place line) = at_line (file_word words place) line (codes "grammar")
 message words (status.TooDeep place line) = at_line (file_word words place) line (codes "too deep")
 message words status.Unbuilt = codes "nfer: unbuilt\n"
-message words status.TraceUnbuilt = codes "nfer: unbuilt\n"
-message words (status.LineUnbuilt line) = codes "nfer: line " ++ decimal line ++ codes ": unbuilt\n"
-message words (status.Order line kept found) = codes "nfer: line " ++ decimal line ++ codes ": time " ++ signed_decimal found ++ codes " after " ++ signed_decimal kept ++ codes "\n"
+message words (status.Kinds number fault) = codes "nfer: rule " ++ decimal number ++ codes ": " ++ kind_text fault ++ codes "\n"
+message words (status.Trace fault) = trace_message fault
 message words (status.ReadFault place) = codes "nfer: cannot read " ++ file_word words place ++ codes "\n"
 message words status.WriteFault = codes "nfer: cannot write\n"
 message words status.NoMemory = codes "nfer: no memory\n"

@@ -1,19 +1,20 @@
--- What is still to be answered in the midst of a trace.
-use Rattle.std.specs.Prelude.{◌≡◌, ℕ, ℤ, List, [], ◌∷◌, ◌++◌, Option}
+-- How far a trace was followed: what a follower stands for between two pieces, and what it wrote.
+use Rattle.std.specs.Prelude.{◌≡◌, ℕ, ◌+◌, ℤ, Bool, false, List, [], ◌∷◌, ◌++◌, length, map, fold, Option, None}
 use Rattle.nf_io.specs.Bytes.{Took, TookPart, TookPrefix}
+use Rattle.nf_core.specs.Intervals.{Interval}
+use Rattle.nf_core.specs.Plan.{Plan, keys_of}
+use Rattle.nf_line.specs.Cutting as cutting
+use Rattle.nf_line.specs.Cutting.{HasCut}
+use Rattle.nf_line.specs.Line.{Line, line_within, spelled}
+use Rattle.nf_line.specs.Raw.{Raw}
+use Rattle.nf_line.specs.Rows.{row_of}
+use Rattle.nf_line.specs.Trace.{Event, Ending, Trace, trace_over}
 use Rattle.nf_model.specs.Changes.{Content, change, with_input}
 use Rattle.nfer_cli.specs.Announcements.{change_text}
-use Rattle.nfer_cli.specs.Trace.{Event, trace_from}
-use Rattle.nf_core.specs.Plan.{Plan}
-use Rattle.nf_core.specs.Intervals.{Interval}
-use Rattle.nfer_cli.specs.Follow.{entered, row_from}
-use Rattle.nfer_cli.specs.Answers.{Answer, EndsFor, Wrote, status_of}
+use Rattle.nfer_cli.specs.Follow.{content_after, entered}
+use Rattle.nfer_cli.specs.Answers.{status_of}
 use Rattle.nfer_cli.specs.declared.status.Status.{Status}
 use Rattle.nfer_cli.specs.declared.status.Status.TheVariants as status
-
--- an event without pairs
-abbrev pub event_at : ℕ → List ℕ → ℤ → Event
-event_at number name time = record { number = number; name = name; time = time; pairs = [] }
 
 -- the text of the change from one content to another one
 unfoldable pub text_between : Content → Content → List ℕ
@@ -28,35 +29,71 @@ unfoldable pub text_from : Content → List Event → List ℕ
 text_from content [] = []
 text_from content (event ∷ events) = event_text content event ++ text_from (entered content event) events
 
--- the answer to the pieces that are left, of which the first has this number, from a content on and after an accepted line with this time
-abbrev pub answer_from : Content → ℕ → Option ℤ → List (List ℕ) → Answer
-answer_from content number last pieces = record {
-  text = text_from content (trace_from number last pieces).events;
-  status = status_of (trace_from number last pieces).ending;
-}
+-- the event of an accepted line of this number
+abbrev pub event_of : ℕ → Raw → Event
+event_of number raw = record { number = number; name = raw.name; time = raw.time; pairs = map spelled raw.texts }
 
--- a call that reads no file ended as an answer says, or with a fault or want of memory before it
-pub record Ended (result : Status) (answer : Answer) (before now : Option (List ℕ)) : Type 0 where
-  pub ends : EndsFor 0 result answer.status
-  pub writes : Wrote result before now answer.text
+-- the interval of an accepted line under a name: it begins and ends at the line's time
+abbrev pub interval_of : Plan → ℕ → Raw → Interval
+interval_of plan n raw = record { start = raw.time; stop = raw.time; row = row_of (keys_of plan n) (map spelled raw.texts) }
 
--- a piece of an answer was written, and the rest of it is left
-pub record Advances (whole rest : Answer) (before now : Option (List ℕ)) : Type 0 where
-  pub piece : List ℕ
-  pub taken : Took before now piece
-  pub text : whole.text ≡ piece ++ rest.text
-  pub status : whole.status ≡ rest.status
+-- the content with the interval of an accepted line entered under a name of the plan
+abbrev pub entered_as : ℕ → Raw → Content → Content
+entered_as n raw content = with_input n (interval_of content.plan n raw) content
+
+-- accepted lines before the rest of a trace
+abbrev pub before : List Event → Trace → Trace
+before events trace = record { events = events ++ trace.events; ending = trace.ending }
+
+-- what an evaluator, the number of the next line, the time of the last accepted one and the kept bytes are after these bytes of a trace: the lines that ended in them were accepted or empty, their events are entered, and what follows goes on from there
+pub record StandsFor (plan : Plan) (full : Bool) (bytes : List ℕ) (content : Content) (number : ℕ) (last : Option ℤ) (kept : cutting.Content) : Type 0 where
+  pub lines : List (List ℕ)
+  pub events : List Event
+  pub cut : HasCut bytes lines kept.kept
+  pub not_long : kept.was_long ≡ false
+  pub counted : number ≡ length lines + 1
+  pub leads : (ending : Ending) (rest : List Line) → trace_over 1 None ending (map line_within lines ++ rest) ≡ before events (trace_over number last ending rest)
+  pub content_is : content ≡ content_after plan full events
+
+-- what was taken leads from one text to a longer one: it is what the second one has more
+pub record TookOn (before now : Option (List ℕ)) (from to : List ℕ) : Type 0 where
+  pub more : List ℕ
+  pub longer : to ≡ from ++ more
+  pub taken : Took before now more
+
+-- the same, and less than what the second one has more was taken
+pub record TookPartOn (before now : Option (List ℕ)) (from to : List ℕ) : Type 0 where
+  pub more : List ℕ
+  pub longer : to ≡ from ++ more
+  pub taken : TookPart before now more
+
+-- a prefix of what the second one has more was taken
+pub record TookPrefixOn (before now : Option (List ℕ)) (from to : List ℕ) : Type 0 where
+  pub more : List ℕ
+  pub longer : to ≡ from ++ more
+  pub taken : TookPrefix before now more
+
+-- how following stops after bytes of a trace, when it has written the text `from` and `to` is the text that is due with the last piece: with the status of a refusal, which is the ending, and all of the text; or with a fault or want of memory, and a prefix of it
+abbrev pub Stops : Status → Ending → (from to : List ℕ) (before now : Option (List ℕ)) → Type 0
+Stops (status.Trace fault) ending from to before now = (status_of ending ≡ status.Trace fault) × TookOn before now from to
+Stops status.WriteFault ending from to before now = TookPartOn before now from to
+Stops status.NoMemory ending from to before now = TookPrefixOn before now from to
+Stops other ending from to before now = ⊥
+
+-- a line leads from a content, the number of the line and the time of the last accepted one to those after it: it is accepted or empty, its event is entered, and the text of that was taken
+pub record LeadsTo (line : Line) (content : Content) (number : ℕ) (last : Option ℤ) (next : Content) (next_number : ℕ) (next_last : Option ℤ) (first now : Option (List ℕ)) : Type 0 where
+  pub events : List Event
+  pub leads : (ending : Ending) (rest : List Line) → trace_over number last ending (line ∷ rest) ≡ before events (trace_over next_number next_last ending rest)
+  pub content_is : next ≡ fold entered content events
+  pub taken : Took first now (text_from content events)
+
+-- how a line stops following, whatever lines come behind and however the trace ends: the texts are those from a content on, of the lines from this one on
+abbrev pub StopsAt : Status → Line → Content → ℕ → Option ℤ → (first now : Option (List ℕ)) → Type 0
+StopsAt status line content number last first now =
+    (ending : Ending) (rest : List Line) → let trace = trace_over number last ending (line ∷ rest) in Stops status trace.ending [] (text_from content trace.events) first now
 
 -- a call that writes a text failed: it took less than the whole, or memory was wanted
-abbrev pub Stopped : Status → List ℕ → Option (List ℕ) → Option (List ℕ) → Type 0
-Stopped status.WriteFault text before now = TookPart before now text
-Stopped status.NoMemory text before now = TookPrefix before now text
-Stopped other text before now = ⊥
-
--- the interval of an event without pairs
-abbrev pub event_interval_of : Plan → ℕ → ℤ → Interval
-event_interval_of plan name time = record { start = time; stop = time; row = row_from plan name [] }
-
--- the content with an event without pairs entered under a name of the plan
-abbrev pub entered_as : ℕ → ℤ → Content → Content
-entered_as name time content = with_input name (event_interval_of content.plan name time) content
+abbrev pub Stopped : Status → List ℕ → (first now : Option (List ℕ)) → Type 0
+Stopped status.WriteFault text first now = TookPart first now text
+Stopped status.NoMemory text first now = TookPrefix first now text
+Stopped other text first now = ⊥

@@ -1,5 +1,7 @@
 -- How far a file was read.
-use Rattle.std.specs.Prelude.{◌≡◌, ℕ, ◌+◌, ◌<◌, ◌≤◌, List, [], ◌++◌, length, drop, Option, Some}
+use Rattle.std.specs.Prelude.{◌≡◌, ℕ, ◌+◌, ◌<◌, ◌≤◌, List, [], ◌++◌, length, drop, Bool, true, false, Option, Some, Result, Err}
+use Rattle.nfer_cli.specs.declared.reading.Unread.{Unread}
+use Rattle.nfer_cli.specs.declared.reading.Unread.TheVariants as why
 
 -- these bytes were read of a whole file, and what is left is told
 pub record HasRead (whole bytes : List ℕ) (rest : Option (List ℕ)) : Type 0 where
@@ -24,3 +26,8 @@ pub record HasPassed (most piece : ℕ) (whole : List ℕ) (rest : Option (List 
   pub past : most < length whole
   pub within : read ≤ most + piece
   pub told : rest ≡ Some (drop read whole)
+
+-- whether a file couldn't be read
+abbrev pub is_unreadable : {A : Type 0} → Result A Unread → Bool
+is_unreadable (Err why.Unreadable) = true
+is_unreadable other = false

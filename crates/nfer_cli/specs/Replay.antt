@@ -4,7 +4,7 @@ use Rattle.std.specs.List.{list_any}
 use Rattle.std.specs.BTreeSet.{insert_key}
 use Rattle.std.specs.Set.{remove_key}
 use Rattle.nf_core.specs.Texts.{text_cmp, text_eq}
-use Rattle.nfer_cli.specs.Lines.{cut}
+use Rattle.nf_line.specs.Lines.{cut}
 
 -- `+` adds a line where it is absent, `-` takes one away where it is present, and everything else is undefined
 abbrev pub replayed_line : List (List ℕ) → ℕ → List ℕ → Option (List (List ℕ))

@@ -1,5 +1,6 @@
 -- The status of a call that answers nothing else.
-use Rattle.std.specs.Prelude.{◌≡◌, ℕ, Result, Ok, Err, ⊤}
+use Rattle.std.specs.Prelude.{◌≡◌, ℕ, Bool, false, Result, Ok, Err, ⊤}
+use Rattle.nfer_cli.specs.Answers.{is_read_fault}
 use Rattle.nfer_cli.specs.declared.status.Status.{Status}
 use Rattle.nfer_cli.specs.declared.status.Status.TheVariants as status
 
@@ -8,11 +9,15 @@ abbrev pub end_of : Result (Unit {0}) Status → Status
 end_of (Ok done) = status.Done
 end_of (Err status) = status
 
+-- whether a call ended with a read fault
+abbrev pub ends_unread : {A : Type 0} → Result A Status → Bool
+ends_unread (Ok a) = false
+ends_unread (Err status) = is_read_fault status
+
 -- the statuses that following a trace can end with
 abbrev pub IsFollowEnd : Status → Type 0
 IsFollowEnd status.Done = ⊤
-IsFollowEnd (status.LineUnbuilt line) = ⊤
-IsFollowEnd (status.Order line kept found) = ⊤
+IsFollowEnd (status.Trace fault) = ⊤
 IsFollowEnd status.WriteFault = ⊤
 IsFollowEnd status.NoMemory = ⊤
 IsFollowEnd other = ⊥
@@ -20,9 +25,7 @@ IsFollowEnd other = ⊥
 -- the statuses that reading and following a trace, which is the file at a place, can end with
 abbrev pub IsTraceEnd : ℕ → Status → Type 0
 IsTraceEnd trace status.Done = ⊤
-IsTraceEnd trace status.TraceUnbuilt = ⊤
-IsTraceEnd trace (status.LineUnbuilt line) = ⊤
-IsTraceEnd trace (status.Order line kept found) = ⊤
+IsTraceEnd trace (status.Trace fault) = ⊤
 IsTraceEnd trace (status.ReadFault place) = place ≡ trace
 IsTraceEnd trace status.WriteFault = ⊤
 IsTraceEnd trace status.NoMemory = ⊤

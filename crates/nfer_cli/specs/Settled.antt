@@ -14,8 +14,9 @@ settled other = other
 abbrev pub AreAlike : Status → Status → Type 0
 AreAlike a b = settled a ≡ settled b
 
--- two answers are known after as many files, and they have the same text and alike statuses
+-- two answers are known after as many files, and they have the same text, whole and as it is due, and alike statuses
 pub record IsSameAnswer (m : ℕ) (a : Answer) (n : ℕ) (b : Answer) : Type 0 where
   pub reads : m ≡ n
   pub text : a.text ≡ b.text
+  pub due_at : a.due_at ≡ b.due_at
   pub status : AreAlike a.status b.status

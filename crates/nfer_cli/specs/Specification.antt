@@ -1,40 +1,13 @@
--- The specifications of this stage: rules `H :- A` and `H :- A before B` outside modules.
-use Rattle.std.specs.Prelude.{◌≡◌, ℕ, Bool, true, false, not, ◌&&◌, List, [], ◌∷◌, ◌++◌, bytes_eq, Option, Some, None, option_map, option_and_then, is_none, if◌then◌else◌}
+-- The specifications of this stage: rules outside modules, in an order in which their bodies read earlier heads alone.
+use Rattle.std.specs.Prelude.{◌≡◌, ℕ, suc, Bool, true, false, not, ◌&&◌, List, [], ◌∷◌, ◌++◌, bytes_eq, Option, Some, None, option_map, option_and_then, is_none, if◌then◌else◌}
 use Rattle.std.specs.List.{list_any, list_all}
 use Rattle.nf_core.specs.Plan.{Plan}
 use Rattle.nf_core.specs.Trees.{Rule, atoms_of}
 use Rattle.nf_core.specs.Written.{plan_of, Levels, AreLevels}
-use Rattle.nf_core.specs.declared.operators.Op.{Op}
-use Rattle.nf_core.specs.declared.operators.Op.TheVariants as operator
 use Rattle.nf_core.specs.declared.trees.Atom.{Atom}
-use Rattle.nf_core.specs.declared.trees.Entry.{Entry}
-use Rattle.nf_core.specs.declared.trees.Body.{Body}
-use Rattle.nf_core.specs.declared.trees.Body.TheVariants.{One, Pair, Unless}
 use Rattle.nf_core.specs.declared.trees.Module.{Module}
-
--- an atom without a label of its own has its name as its label
-abbrev pub is_plain_atom : Atom → Bool
-is_plain_atom atom = bytes_eq atom.label atom.name
-
--- the operator `before`
-abbrev pub is_before : Op → Bool
-is_before operator.Before = true
-is_before other = false
-
--- one atom without a label of its own, or two such atoms of different names joined by `before`
-abbrev pub is_built_body : Body → Bool
-is_built_body (One first) = is_plain_atom first
-is_built_body (Pair first op second) = is_plain_atom first && is_before op && is_plain_atom second && not (bytes_eq first.name second.name)
-is_built_body (Unless first xop second) = false
-
--- no entries
-abbrev pub are_no_entries : List Entry → Bool
-are_no_entries [] = true
-are_no_entries (entry ∷ entries) = false
-
--- a rule that this stage builds: such a body, and no clause but an empty map
-unfoldable pub is_built_rule : Rule → Bool
-is_built_rule rule = is_built_body rule.body && is_none rule.filter && are_no_entries rule.entries && is_none rule.start && is_none rule.stop
+use Rattle.nf_typing.specs.Faults.{fault_of}
+use Rattle.nf_typing.specs.declared.fault.KindFault.{KindFault}
 
 -- the rules of some modules in order; none where a module has a name
 unfoldable pub rules_outside : List Module → Option (List Rule)
@@ -50,13 +23,27 @@ unfoldable pub reads_earlier_heads : List Rule → Bool
 reads_earlier_heads [] = true
 reads_earlier_heads (rule ∷ rules) = list_all (λ (atom : Atom). not (is_head_of (rule ∷ rules) atom.name)) (atoms_of rule.body) && reads_earlier_heads rules
 
--- rules that this stage builds, in an order in which their bodies read earlier heads alone
-abbrev pub built_rules : List Rule → Option (List Rule)
-built_rules rules = if list_all is_built_rule rules && reads_earlier_heads rules then Some rules else None
+-- rules, where their bodies read earlier heads alone
+abbrev pub ordered_rules : List Rule → Option (List Rule)
+ordered_rules rules = if reads_earlier_heads rules then Some rules else None
 
 -- the rules of some modules, where they are in the form of this stage
 unfoldable pub rules_of : List Module → Option (List Rule)
-rules_of modules = option_and_then built_rules (rules_outside modules)
+rules_of modules = option_and_then ordered_rules (rules_outside modules)
+
+-- the fault of a rule with a number, where it has one, and else that of the rules behind it
+abbrev pub kind_fault_at : ℕ → Option KindFault → Option (ℕ × KindFault) → Option (ℕ × KindFault)
+kind_fault_at number None later = later
+kind_fault_at number (Some fault) later = Some (number, fault)
+
+-- the first of some rules whose kinds aren't right, by its number, with its first fault; the first of the rules has this number
+unfoldable pub kind_fault_from : ℕ → List Rule → Option (ℕ × KindFault)
+kind_fault_from number [] = None
+kind_fault_from number (rule ∷ rules) = kind_fault_at number (fault_of rule) (kind_fault_from (suc number) rules)
+
+-- the first rule whose kinds aren't right; rules are counted from 1
+abbrev pub kind_fault : List Rule → Option (ℕ × KindFault)
+kind_fault rules = kind_fault_from 1 rules
 
 -- the plan of some rules: every name has its level
 pub record IsPlanOf (rules : List Rule) (plan : Plan) : Type 0 where

@@ -3,9 +3,9 @@
 ghost use Rattle.std.specs.Prelude.{◌≡◌, ℕ, Bool, List, Option};
 ghost use Rattle.nf_core.specs.Plan.{Plan};
 ghost use Rattle.nf_io.specs.Files.{Files};
+ghost use Rattle.nf_line.specs.Trace.{Event};
 ghost use Rattle.nf_model.specs.Changes.{no_inputs};
 ghost use Rattle.nfer_cli.specs.Answers.{Answer, Defines};
-ghost use Rattle.nfer_cli.specs.Trace.{Event};
 ghost use Rattle.nfer_cli.specs.Follow.{follow_text};
 ghost use Rattle.nfer_cli.specs.Progress.{text_from};
 ghost use Rattle.nfer_cli.specs.Settled.{IsSameAnswer};

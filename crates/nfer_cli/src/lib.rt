@@ -5,24 +5,26 @@ mod announced;
 mod announcements;
 mod command;
 mod data_text;
+mod entering;
+mod follower;
 mod following;
 mod heads;
 mod identifiers;
 mod laws;
 mod messages;
 mod parsing;
-mod pieces;
 mod planning;
 mod reading;
+mod replay_laws;
 mod rule_levels;
 mod sources;
 mod specification;
 mod status;
-mod trace_lines;
 mod words;
 
 pub use command::run;
 pub use laws::{every_question_has_one_answer, follow_text_is_one_change_after_another};
+pub use replay_laws::{lines_give_back_what_they_announce, replay_is_what_is_shown};
 pub use status::Status;
 pub use words::Words;
 
@@ -30,5 +32,3 @@ pub use words::Words;
 mod announcement_tests;
 #[cfg(test)]
 mod run_tests;
-#[cfg(test)]
-mod trace_line_tests;

@@ -1,8 +1,9 @@
 //! The one line that standard error gets.
 
-ghost use Rattle.std.specs.Prelude.{◌≡◌, ◌≤◌, flat_map};
+ghost use Rattle.std.specs.Prelude.{◌≡◌, ◌≤◌, ◌++◌, codes, flat_map};
+ghost use Rattle.std.specs.Fmt.{signed_decimal};
 ghost use Rattle.nfer_cli.specs.Answers.{Reports};
-ghost use Rattle.nfer_cli.specs.Messages.{message, at_line, fault_text, fault_line};
+ghost use Rattle.nfer_cli.specs.Messages.{message, at_line, at_trace_line, trace_message, line_text, kind_text, fault_text, fault_line};
 ghost use Rattle.nfer_cli.specs.Words.{file_word};
 
 use crate::status::Status;
@@ -10,6 +11,8 @@ use crate::words::Words;
 use itoa::Buffer;
 use nf_io::{Failed, Sink, write_all};
 use nf_lex::LexFault;
+use nf_line::{LineFault, TraceFault};
+use nf_typing::KindFault;
 
 /// Writes the message of a status, and nothing where all is done (`message` of specs/Messages).
 /// Takes no memory. A sink that fails took a prefix of it.
@@ -19,8 +22,6 @@ pub fn report<E: Sink>(err: &mut E, words: &Words, status: &Status)
     ensures never_falls { E.faults err.old ≤ E.faults err.new }
 {
     let mut number = Buffer::new();
-    let mut kept_text = Buffer::new();
-    let mut found_text = Buffer::new();
     let _written = match status {
         Status::Done => Ok(()),
         Status::Usage => write_texts(err, &["nfer: usage\n"]),
@@ -38,22 +39,17 @@ pub fn report<E: Sink>(err: &mut E, words: &Words, status: &Status)
             write_at_line(err, words.file_word(*place), *line, "too deep")
         }
         Status::Unbuilt => write_texts(err, &["nfer: unbuilt\n"]),
-        Status::TraceUnbuilt => write_texts(err, &["nfer: unbuilt\n"]),
-        Status::LineUnbuilt(line) => {
-            write_texts(err, &["nfer: line ", number.format(*line), ": unbuilt\n"])
-        }
-        Status::Order { line, kept, found } => write_texts(
+        Status::Kinds(rule, fault) => write_texts(
             err,
             &[
-                "nfer: line ",
-                number.format(*line),
-                ": time ",
-                found_text.format(*found),
-                " after ",
-                kept_text.format(*kept),
+                "nfer: rule ",
+                number.format(*rule),
+                ": ",
+                kind_text(fault),
                 "\n",
             ],
         ),
+        Status::Trace(fault) => write_trace_fault(err, fault),
         Status::ReadFault(place) => {
             write_texts(err, &["nfer: cannot read ", words.file_word(*place), "\n"])
         }
@@ -72,6 +68,77 @@ fn write_at_line<E: Sink>(err: &mut E, file: &str, line: u64, what: &str) -> Res
         err,
         &["nfer: ", file, ":", number.format(line), ": ", what, "\n"],
     )
+}
+
+// Writes the message of a refused trace.
+#[tactic(auto, unfolding(crate::specs::Messages::trace_message))]
+fn write_trace_fault<E: Sink>(err: &mut E, fault: &TraceFault) -> Result<(), Failed>
+    ensures message { Reports (E.taken err.old) (E.taken err.new) (E.faults err.old) (E.faults err.new) (trace_message fault.now) }
+    ensures never_falls { E.faults err.old ≤ E.faults err.new }
+{
+    match fault {
+        TraceFault::Long(line) => write_at_trace_line(err, *line, "long"),
+        TraceFault::Line(line, fault) => write_at_trace_line(err, *line, line_text(fault)),
+        TraceFault::Order { line, kept, found } => write_order(err, *line, *kept, *found),
+        TraceFault::TooLong => write_texts(err, &["nfer: input too long\n"]),
+    }
+}
+
+// Writes a refusal of a line of the trace.
+fn write_at_trace_line<E: Sink>(err: &mut E, line: u64, what: &str) -> Result<(), Failed>
+    ensures line { Reports (E.taken err.old) (E.taken err.new) (E.faults err.old) (E.faults err.new) (at_trace_line line what.now) }
+    ensures never_falls { E.faults err.old ≤ E.faults err.new }
+{
+    let mut number = Buffer::new();
+    write_texts(err, &["nfer: line ", number.format(line), ": ", what, "\n"])
+}
+
+// Writes the refusal of a time that is less than the one before it.
+fn write_order<E: Sink>(err: &mut E, line: u64, kept: i64, found: i64) -> Result<(), Failed>
+    ensures order { Reports (E.taken err.old) (E.taken err.new) (E.faults err.old) (E.faults err.new) (at_trace_line line (codes "time " ++ signed_decimal found ++ codes " after " ++ signed_decimal kept)) }
+    ensures never_falls { E.faults err.old ≤ E.faults err.new }
+{
+    let mut number = Buffer::new();
+    let mut found_time = Buffer::new();
+    let mut kept_time = Buffer::new();
+    write_texts(
+        err,
+        &[
+            "nfer: line ",
+            number.format(line),
+            ": time ",
+            found_time.format(found),
+            " after ",
+            kept_time.format(kept),
+            "\n",
+        ],
+    )
+}
+
+// What is shown of a line's fault.
+fn line_text(fault: &LineFault) -> &'static str
+    ensures { result.now ≡ line_text fault.now }
+{
+    match fault {
+        LineFault::NotText => "not text",
+        LineFault::Fields => "fields",
+        LineFault::Time => "time",
+        LineFault::Key => "key",
+        LineFault::Counts => "counts",
+    }
+}
+
+// What is shown of a rule's kinds.
+fn kind_text(fault: &KindFault) -> &'static str
+    ensures { result.now ≡ kind_text fault.now }
+{
+    match fault {
+        KindFault::UnknownLabel => "unknown label",
+        KindFault::SameLabel => "same label",
+        KindFault::WrongKind => "wrong kind",
+        KindFault::SecondLabel => "second label",
+        KindFault::SameKey => "same key",
+    }
 }
 
 // What is shown of a lexical fault.

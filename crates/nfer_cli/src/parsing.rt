@@ -3,10 +3,10 @@
 ghost use Rattle.std.specs.Prelude.{◌≡◌, ◌+◌, ◌≤◌, ◌<◌, Ok, All, IfOk, IfErr, OnOk, length, map, sum, take};
 ghost use Rattle.nf_parse.specs.declared.fault.ParseFault.{ParseFault};
 ghost use Rattle.nf_core.specs.Trees.{IsWritten};
+ghost use Rattle.nf_parse.specs.Answers.{rules_in, size_of};
 ghost use Rattle.nf_parse.specs.Parses.{Parses};
 ghost use Rattle.nfer_cli.specs.Answers.{refused_at};
 ghost use Rattle.nfer_cli.specs.Parsing.{AreParsedTo, IsRefusal};
-ghost use Rattle.nfer_cli.specs.ReadPlan.{all_rules};
 ghost use Rattle.nfer_cli.specs.Sources.{AreParsed};
 
 use crate::status::Status;
@@ -19,8 +19,8 @@ use std::alloc::Global;
 /// specs/Answers), or want of memory.
 pub fn parse_sources(alloc: Global, sources: &[Lines]) -> Result<Vec<Module>, Status>
     ensures parsed { IfOk result (λ modules. AreParsed sources.now (Ok modules.items)) }
-    ensures few { IfOk result (λ modules. length (all_rules modules.items) ≤ sum (map length sources.now)) }
-    ensures written { IfOk result (λ modules. All IsWritten (all_rules modules.items)) }
+    ensures few { IfOk result (λ modules. size_of modules.items ≤ sum (map length sources.now)) }
+    ensures written { IfOk result (λ modules. All IsWritten (rules_in modules.items)) }
     ensures refused { IfErr result (IsRefusal sources.now) }
 {
     let mut modules = Vec::new(alloc);
@@ -39,11 +39,11 @@ fn add_modules(
 ) -> Result<(), Status>
     requires place { place < length sources.now }
     requires parsed { AreParsedTo sources.now place modules.old.items }
-    requires few { length (all_rules modules.old.items) ≤ sum (map length (take place sources.now)) }
-    requires written { All IsWritten (all_rules modules.old.items) }
+    requires few { size_of modules.old.items ≤ sum (map length (take place sources.now)) }
+    requires written { All IsWritten (rules_in modules.old.items) }
     ensures parsed { OnOk result (AreParsedTo sources.now (place + 1) modules.new.items) }
-    ensures few { OnOk result (length (all_rules modules.new.items) ≤ sum (map length (take (place + 1) sources.now))) }
-    ensures written { OnOk result (All IsWritten (all_rules modules.new.items)) }
+    ensures few { OnOk result (size_of modules.new.items ≤ sum (map length (take (place + 1) sources.now))) }
+    ensures written { OnOk result (All IsWritten (rules_in modules.new.items)) }
     ensures refused { IfErr result (IsRefusal sources.now) }
 {
     match parse(alloc, sources[place].as_slice()) {

@@ -4,7 +4,7 @@ ghost use Rattle.std.specs.Prelude.{◌≡◌, ◌≢◌, ◌+◌, ◌<◌, ◌�
 ghost use Rattle.nf_io.specs.Causes.{Rose};
 ghost use Rattle.nf_io.specs.Files.{bytes_of, asked_of};
 ghost use Rattle.nfer_cli.specs.Answers.{StandsIn, StandsAtEnd, StandsShort};
-ghost use Rattle.nfer_cli.specs.Reading.{HasRead, HasEnded, HasPassed, HasStopped};
+ghost use Rattle.nfer_cli.specs.Reading.{HasRead, HasEnded, HasPassed, HasStopped, is_unreadable};
 ghost use Rattle.nfer_cli.specs.declared.reading.Unread.TheVariants.{NoMemory as no_memory, Unreadable as unreadable};
 
 use nf_core::{Lines, NoMemory};
@@ -12,7 +12,7 @@ use nf_io::{Failed, Shelf};
 use std::alloc::{AllocError, Global};
 
 /// The most bytes of one read.
-const PIECE_LIMIT: usize = 65_536;
+pub const PIECE_LIMIT: usize = 65_536;
 
 /// Why a file wasn't read whole.
 #[derive(Debug, Clone, Copy, PartialEq, Eq)]
@@ -69,7 +69,7 @@ pub fn read_file<F: Shelf>(
     ensures stopped { result ≡ Err Unread.TooLong → IfSome (F.files shelf.old) (λ files. StandsIn files name.now (most + PIECE_LIMIT) (F.asked shelf.new) (F.rest shelf.new)) }
     ensures unread { result ≡ Err Unread.Unreadable → IfSome (F.files shelf.old) (λ files. StandsShort files name.now most (F.asked shelf.new) (F.rest shelf.new)) }
     ensures cause { result ≡ Err Unread.Unreadable → Rose (F.faults shelf.old) (F.faults shelf.new) }
-    ensures failed { result ≡ Err Unread.Unreadable → F.failed shelf.new ≡ true }
+    ensures failed { F.failed shelf.new ≡ is_unreadable result }
     ensures asked { IfSome (F.files shelf.old) (λ files. F.asked shelf.new ≡ Some (asked_of files name.now)) }
 {
     shelf.pick(name)?;
@@ -79,8 +79,8 @@ pub fn read_file<F: Shelf>(
     Ok(bytes)
 }
 
-// A buffer for one piece.
-fn new_buffer(alloc: Global) -> Result<Vec<u8>, AllocError>
+/// A buffer for one piece.
+pub fn new_buffer(alloc: Global) -> Result<Vec<u8>, AllocError>
     ensures { IfOk result (λ bytes. vec_len bytes ≡ PIECE_LIMIT) }
 {
     vec![in alloc; 0; PIECE_LIMIT]
@@ -103,7 +103,7 @@ fn read_rest<F: Shelf>(
     ensures too_long { result ≡ Err Unread.TooLong → (whole : List ℕ) → HasRead whole bytes.old (F.rest shelf.old) → HasPassed most PIECE_LIMIT whole (F.rest shelf.new) }
     ensures unread { result ≡ Err Unread.Unreadable → (whole : List ℕ) → HasRead whole bytes.old (F.rest shelf.old) → HasStopped most whole (F.rest shelf.new) }
     ensures cause { result ≡ Err Unread.Unreadable → Rose (F.faults shelf.old) (F.faults shelf.new) }
-    ensures failed { result ≡ Err Unread.Unreadable → F.failed shelf.new ≡ true }
+    ensures failed { F.failed shelf.new ≡ is_unreadable result }
 {
     'pieces: while read_within(shelf, buffer, most, bytes)? {}
     Ok(())
@@ -129,7 +129,7 @@ fn read_within<F: Shelf>(
     ensures too_long { result ≡ Err Unread.TooLong → (whole : List ℕ) → HasRead whole bytes.old (F.rest shelf.old) → HasPassed most PIECE_LIMIT whole (F.rest shelf.new) }
     ensures unread { result ≡ Err Unread.Unreadable → F.rest shelf.new ≡ F.rest shelf.old }
     ensures cause { result ≡ Err Unread.Unreadable → Rose (F.faults shelf.old) (F.faults shelf.new) }
-    ensures failed { result ≡ Err Unread.Unreadable → F.failed shelf.new ≡ true }
+    ensures failed { F.failed shelf.new ≡ is_unreadable result }
 {
     let more = read_piece(shelf, buffer, bytes)?;
     if bytes.as_slice().len() > most {
@@ -151,7 +151,7 @@ fn read_piece<F: Shelf>(shelf: &mut F, buffer: &mut [u8], bytes: &mut Lines) -> 
     ensures within { result ≢ Err Unread.TooLong }
     ensures unread { result ≡ Err Unread.Unreadable → F.rest shelf.new ≡ F.rest shelf.old }
     ensures cause { result ≡ Err Unread.Unreadable → Rose (F.faults shelf.old) (F.faults shelf.new) }
-    ensures failed { result ≡ Err Unread.Unreadable → F.failed shelf.new ≡ true }
+    ensures failed { F.failed shelf.new ≡ is_unreadable result }
 {
     let count = shelf.read(buffer)?;
     bytes.push(&buffer[..count])?;

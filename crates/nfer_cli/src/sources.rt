@@ -4,7 +4,7 @@ ghost use Rattle.std.specs.Prelude.{◌≡◌, ◌+◌, ◌<◌, ◌≤◌, None
 ghost use Rattle.nf_io.specs.Causes.{Rose};
 ghost use Rattle.nf_io.specs.Files.{bytes_of, asked_of};
 ghost use Rattle.nfer_cli.specs.Answers.{StandsIn, StandsAtEnd, StandsPast, StandsAfter, StandsShort, allowed_at, CannotRead, IfReadFault, AsksWithin, piece_limit};
-ghost use Rattle.nfer_cli.specs.Results.{IsUnread};
+ghost use Rattle.nfer_cli.specs.Results.{IsUnread, ends_unread};
 ghost use Rattle.nfer_cli.specs.Sources.{specification_limit, sources_of, passing};
 
 use crate::reading::{Unread, read_file};
@@ -39,6 +39,7 @@ pub fn read_sources<F: Shelf>(
     ensures read_fault { IfErr result (λ status. IfReadFault status (λ place. CannotRead names.now place (F.files shelf.old) (F.faults shelf.old) (F.faults shelf.new) (F.failed shelf.new) (F.asked shelf.new))) }
     ensures unread { IfErr result (λ status. IfReadFault status (λ place. IfSome (F.files shelf.old) (λ files. StandsShort files (slice_index_or names.now place []) (allowed_at names.now files place) (F.asked shelf.new) (F.rest shelf.new)))) }
     ensures before { IfErr result (λ status. IfReadFault status (λ place. IfSome (F.files shelf.old) (λ files. passing specification_limit (sources_of files (take place names.now)) ≡ None))) }
+    ensures failed { F.failed shelf.new ≡ ends_unread result }
     ensures kinds { IfErr result IsUnread }
     ensures asks { IfSome (F.files shelf.old) (λ files. AsksWithin names.now files (F.asked shelf.old) (F.asked shelf.new)) }
 {
@@ -71,6 +72,7 @@ fn read_source<F: Shelf>(
     ensures read_fault { IfErr result (λ status. IfReadFault status (λ at. CannotRead names.now at (F.files shelf.old) (F.faults shelf.old) (F.faults shelf.new) (F.failed shelf.new) (F.asked shelf.new))) }
     ensures unread { IfErr result (λ status. IfReadFault status (λ at. IfSome (F.files shelf.old) (λ files. StandsShort files (slice_index_or names.now place []) room (F.asked shelf.new) (F.rest shelf.new)))) }
     ensures at { IfErr result (λ status. IfReadFault status (λ at. at ≡ place)) }
+    ensures failed { F.failed shelf.new ≡ ends_unread result }
     ensures kinds { IfErr result IsUnread }
     ensures asked { IfSome (F.files shelf.old) (λ files. F.asked shelf.new ≡ Some (asked_of files (slice_index_or names.now place []))) }
 {

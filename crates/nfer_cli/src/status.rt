@@ -6,6 +6,8 @@ ghost use Rattle.nfer_cli.specs.declared.status.Status.TheVariants.{NoMemory as 
 
 use nf_core::NoMemory;
 use nf_lex::LexFault;
+use nf_line::TraceFault;
+use nf_typing::KindFault;
 use std::alloc::AllocError;
 
 /// How a call ended. A status carries what its message shows.
@@ -25,12 +27,10 @@ pub enum Status {
     TooDeep(usize, u64),
     /// The specification isn't in the form of this stage.
     Unbuilt,
-    /// The trace has more than 1,048,576 bytes, which this stage can't hold.
-    TraceUnbuilt,
-    /// The line of this number, counted from 1, isn't in the form of this stage.
-    LineUnbuilt(u64),
-    /// The time of the line of this number is less than that of the last accepted line.
-    Order { line: u64, kept: i64, found: i64 },
+    /// The kinds of the rule of this number, counted from 1, aren't right: its first fault.
+    Kinds(usize, KindFault),
+    /// The trace is refused at a line, or is too long.
+    Trace(TraceFault),
     /// The file at this place, counted from 0, of the command's files couldn't be read.
     ReadFault(usize),
     /// Standard output couldn't be written.
@@ -51,8 +51,9 @@ impl Status {
             | Status::Lexical(_, _)
             | Status::Grammar(_, _)
             | Status::TooDeep(_, _)
-            | Status::Unbuilt => 2,
-            Status::TraceUnbuilt | Status::LineUnbuilt(_) | Status::Order { .. } => 3,
+            | Status::Unbuilt
+            | Status::Kinds(_, _) => 2,
+            Status::Trace(_) => 3,
             Status::ReadFault(_) => 4,
             Status::WriteFault => 5,
             Status::NoMemory => 6,

@@ -1,5 +1,5 @@
-use Rattle.nfer_cli.proofs.Whole.{no_fault_of_reading}
+use Rattle.nfer_cli.proofs.Whole.{ends_unpicked}
 use Rattle.nfer_cli.proofs.command.follow_under.Goals as goal
 
-pub returns-in-Ok-clause-unread : goal.returns-in-Ok-clause-unread
-returns-in-Ok-clause-unread g c = no_fault_of_reading _ _ c.follow_trace.ensures.kinds
+pub returns-in-Err-clause-answer : goal.returns-in-Err-clause-answer
+returns-in-Err-clause-answer g c = ends_unpicked (g.F.Shelf.files c.args.shelf.now) c.args.plan.now c.args.place _ _ c.in-Err.ensures.untold

@@ -1,36 +1,86 @@
-use Rattle.std.proofs.Common.{◌≡◌, ℕ, List, [], sym, subst, arith, rules}
-use Rattle.std.proofs.lemmas.Grind.{common_steps}
-use Rattle.nfer_cli.specs.Lines.{cut}
-use Rattle.nfer_cli.specs.Progress.{Ended, Advances, answer_from}
+use Rattle.std.proofs.Common.{◌≡◌, ℕ, List, IfSome, length, take, sym, ap, ◌∙◌, subst, arith, rules}
+use Rattle.std.proofs.lemmas.List.{length-take-le}
+use Rattle.nf_io.specs.Bytes.{Gives}
+use Rattle.nfer_cli.specs.Ended.{EndsTrace}
 use Rattle.nfer_cli.specs.declared.status.Status.TheVariants as status
-use Rattle.nfer_cli.proofs.Answered.{advances_then, ended_after, ended_done}
+use Rattle.nfer_cli.proofs.TraceEnds.{limit_is, stands_first, stands_more, ends_unread, ends_in_piece, ends_finished, ends_at_limit, same_buffer}
+use Rattle.nfer_cli.specs.Answers.{is_read_fault}
+use Rattle.nfer_cli.proofs.Whole.{follow_is_read, end_is_read}
 use Rattle.nfer_cli.proofs.following.follow.Goals as goal
 
-pub returns-in_err-follower-clause-answer : goal.returns-in_err-follower-clause-answer
-returns-in_err-follower-clause-answer g c =
-    let status = c.in_err-follower.field-0.0 in
-    let content = g.I.Inferer.content c.lines.follower.inferer in
-    let ends : Ended status (answer_from content c.lines.follower.number c.lines.follower.last (cut c.lines.rest.now)) (g.O.Sink.taken c.lines.out) (g.O.Sink.taken c.follow_line.new.out) =
-    subst (λ (pieces : List (List ℕ)). Ended status (answer_from content c.lines.follower.number c.lines.follower.last pieces) (g.O.Sink.taken c.lines.out) (g.O.Sink.taken c.follow_line.new.out))
-    (sym c.next_line.ensures.cut) (c.in_err-follower.ensures.err (cut c.next_line.result.1.now)) in
-    let whole = ended_after status _ _ _ _ _ c.lines.invariant.advances ends in
-    search (rules, whole)
+pub pieces-init : goal.pieces-init
+pieces-init g c = record {
+  room = search rules;
+  few = omega arith;
+  plan = ap (λ k. k.plan) (c.new-follower.ensures.content ∙ c.requires);
+  counted = omega (arith, c.new-follower.ensures.number);
+  files = search rules;
+  asked = search rules;
+  calm = λ before. before;
+  later = omega arith;
+  out_later = omega arith;
+  stands = λ bytes told. stands_first _ _ bytes _ _ _ _ _ _ told (c.new-follower.ensures.stands _ _ c.requires);
+}
 
-pub lines-preserved : goal.lines-preserved
-lines-preserved g c =
-    let content = g.I.Inferer.content c.lines.follower.inferer in
-    let next = g.I.Inferer.content c.in_ok-follower.follower.inferer in
-    let advances : Advances (answer_from content c.lines.follower.number c.lines.follower.last (cut c.lines.rest.now)) (answer_from next c.in_ok-follower.follower.number c.in_ok-follower.follower.last (cut c.next_line.result.1.now)) (g.O.Sink.taken c.lines.out) (g.O.Sink.taken c.follow_line.new.out) =
-    subst (λ (pieces : List (List ℕ)). Advances (answer_from content c.lines.follower.number c.lines.follower.last pieces) (answer_from next c.in_ok-follower.follower.number c.in_ok-follower.follower.last (cut c.next_line.result.1.now)) (g.O.Sink.taken c.lines.out) (g.O.Sink.taken c.follow_line.new.out))
-    (sym c.next_line.ensures.cut) (c.in_ok-follower.ensures.ok (cut c.next_line.result.1.now)) in
+pub returns-in_err-count-clause-answer : goal.returns-in_err-count-clause-answer
+returns-in_err-count-clause-answer g c = λ bytes told.
+    let s = c.in_err-count.field-0.0 in
+    let is : s ≡ status.ReadFault c.args.place = c.in_err-count.ensures.status in
+    let ends = ends_unread _ _ c.args.place c.args.place bytes c.pieces.taken _ _ _ _ _ (g.F.Shelf.rest c.read_piece.new.shelf) _ _ (c.pieces.invariant.stands bytes told) (omega (arith, limit_is, c.pieces-test.true)) c.in_err-count.ensures.unread (omega arith) in
+    let same = subst (λ s. EndsTrace c.args.plan.now (g.I.Inferer.content c.args.inferer).full c.args.place bytes s (g.F.Shelf.rest c.read_piece.new.shelf) (g.O.Sink.taken c.args.out.now) (g.O.Sink.taken c.pieces.out)) (sym is) ends in
+    search (rules, same)
+
+pub returns-then-count-eq0-clause-answer : goal.returns-then-count-eq0-clause-answer
+returns-then-count-eq0-clause-answer g c = λ bytes told.
+    ends_finished _ _ c.args.place bytes c.read_piece.new.buffer c.pieces.taken c.in_ok-count.count c.finish.result _ _ _ _ _ _ _ _ _ (c.pieces.invariant.stands bytes told)
+    (omega (arith, limit_is, c.pieces-test.true)) c.in_ok-count.ensures.bytes c.in_ok-count.ensures.rest c.if-count-eq0.true c.finish.ensures.done c.finish.ensures.taken c.finish.ensures.stops
+
+pub returns-in_err-follower-clause-answer : goal.returns-in_err-follower-clause-answer
+returns-in_err-follower-clause-answer g c = λ bytes told.
+    let buffer : c.deref.result.now ≡ c.read_piece.new.buffer = same_buffer _ _ _ _ c.deref.ensures.value (c.read_piece.ensures.room ∙ sym c.pieces.invariant.room) in
+    let gives : IfSome (g.F.Shelf.rest c.pieces.shelf) (Gives c.deref.result.now c.in_ok-count.count) = subst (λ (b : List ℕ). IfSome (g.F.Shelf.rest c.pieces.shelf) (Gives b c.in_ok-count.count)) (sym buffer) c.in_ok-count.ensures.bytes in
+    let ends = ends_in_piece c.what_is_known_of_a_trace_stays.ensures.refused c.what_is_known_of_a_trace_stays.ensures.goes_on c.what_is_known_of_a_trace_stays.ensures.never_too_long
+    _ _ c.args.place bytes c.deref.result.now c.pieces.taken c.in_ok-count.count c.in_err-follower.field-0.0 _ _ _ _ _ _ _ _ _ (c.pieces.invariant.stands bytes told)
+    (omega (arith, limit_is, c.pieces-test.true)) (omega (arith, limit_is, c.in_ok-count.ensures.within)) c.in_ok-count.ensures.one_piece gives c.in_ok-count.ensures.rest c.in_err-follower.ensures.stops in
+    search (rules, ends)
+
+pub pieces-preserved : goal.pieces-preserved
+pieces-preserved g c =
+    let buffer : c.deref.result.now ≡ c.read_piece.new.buffer = same_buffer _ _ _ _ c.deref.ensures.value (c.read_piece.ensures.room ∙ sym c.pieces.invariant.room) in
+    let gives : IfSome (g.F.Shelf.rest c.pieces.shelf) (Gives c.deref.result.now c.in_ok-count.count) = subst (λ (b : List ℕ). IfSome (g.F.Shelf.rest c.pieces.shelf) (Gives b c.in_ok-count.count)) (sym buffer) c.in_ok-count.ensures.bytes in
+    let count : length (take c.in_ok-count.count c.deref.result.now) ≡ c.in_ok-count.count = length-take-le c.in_ok-count.count c.deref.result.now (omega (arith, c.in_ok-count.ensures.one_piece, c.deref.ensures.len, c.pieces.invariant.room)) in
     record {
+      room = search rules;
+      few = omega (arith, c.in_ok-count.ensures.within, c.pieces-test.true);
       plan = c.in_ok-follower.ensures.plan;
-      counted = omega (arith, c.in_ok-follower.ensures.counted, c.next_line.ensures.shorter);
-      advances = advances_then _ _ _ _ _ _ c.lines.invariant.advances advances;
-      later = omega (arith, c.follow_line.ensures.never_falls);
+      counted = omega (arith, c.in_ok-follower.ensures.counted, count, c.pieces.invariant.counted);
+      files = c.read_piece.ensures.files ∙ c.pieces.invariant.files;
+      asked = c.read_piece.ensures.asked ∙ c.pieces.invariant.asked;
+      calm = λ before. c.in_ok-count.ensures.failed;
+      later = omega (arith, c.read_piece.ensures.never_falls, c.pieces.invariant.later);
+      out_later = omega (arith, c.feed.ensures.never_falls, c.pieces.invariant.out_later);
+      stands = λ bytes told.
+          stands_more c.lines_mean_their_pieces.ensures.broken_off _ _ bytes c.deref.result.now c.pieces.taken c.in_ok-count.count _ _ _ _ _ _ _ _ _ _ _ _ _ (c.pieces.invariant.stands bytes told)
+          gives c.in_ok-count.ensures.rest c.keeps_a_line.ensures c.in_ok-follower.ensures.stands c.in_ok-follower.ensures.taken;
     }
 
 pub returns-clause-answer : goal.returns-clause-answer
-returns-clause-answer g c =
-    let none : c.lines.rest.now ≡ [] = grind (arith, common_steps) in
-    ended_after status.Done _ _ _ _ _ c.lines.invariant.advances (ended_done _ _ _ _ _ none)
+returns-clause-answer g c = λ bytes told.
+    ends_at_limit c.what_is_known_of_a_trace_stays.ensures.at_limit _ _ c.args.place bytes c.pieces.taken _ _ _ _ _ _ _ (c.pieces.invariant.stands bytes told)
+    (omega (arith, limit_is, c.pieces-test.false, c.pieces.invariant.few))
+
+pub returns-in_err-count-clause-only_failed : goal.returns-in_err-count-clause-only_failed
+returns-in_err-count-clause-only_failed g c =
+    let s = c.in_err-count.field-0.0 in
+    let is : s ≡ status.ReadFault c.args.place = c.in_err-count.ensures.status in
+    let failed : g.F.Shelf.failed c.read_piece.new.shelf ≡ is_read_fault s = c.in_err-count.ensures.failed ∙ sym (ap is_read_fault is) in
+    search (rules, failed)
+
+pub returns-then-count-eq0-clause-only_failed : goal.returns-then-count-eq0-clause-only_failed
+returns-then-count-eq0-clause-only_failed g c = λ before. c.in_ok-count.ensures.failed ∙ sym (end_is_read c.finish.result c.finish.ensures.kinds)
+
+pub returns-in_err-follower-clause-only_failed : goal.returns-in_err-follower-clause-only_failed
+returns-in_err-follower-clause-only_failed g c =
+    let s = c.in_err-follower.field-0.0 in
+    let failed : g.F.Shelf.failed c.read_piece.new.shelf ≡ is_read_fault s = c.in_ok-count.ensures.failed ∙ sym (follow_is_read s c.in_err-follower.ensures.kinds) in
+    search (rules, failed)

@@ -1,20 +1,29 @@
-use Rattle.std.proofs.Common.{◌≡◌, ◌+◌, ◌≤◌, length, None}
-use Rattle.nfer_cli.specs.Lines.{cut}
-use Rattle.nfer_cli.specs.Progress.{answer_from, Advances}
+use Rattle.std.proofs.Common.{◌-◌, ◌≡◌, ℕ, List, ◌+◌, ◌≤◌, false, Some, vec_len}
+use Rattle.nfer_cli.specs.Ended.{StandsBehind}
+use Rattle.nfer_cli.specs.declared.reading.TheConstants.{PIECE_LIMIT}
+use Rattle.nfer_cli.specs.declared.following.TheConstants.{TRACE_LIMIT}
 use Rattle.nfer_cli.proofs.following.follow.Given as goal
 
--- what was written so far and what is left are the answer to all lines
-abbrev pub invariant-lines : goal.invariant-lines
-invariant-lines g l =
+-- the bytes so far were followed, and not more of them than a trace may have
+abbrev pub invariant-pieces : goal.invariant-pieces
+invariant-pieces g l =
+    let shelf = g.F.Shelf in
     let content = g.I.Inferer.content in
     let taken = g.O.Sink.taken in
     let faults = g.O.Sink.faults in record {
+      room : vec_len l.buffer ≡ PIECE_LIMIT;
+      few : l.taken ≤ TRACE_LIMIT;
       plan : (content l.follower.inferer).plan ≡ l.plan;
-      counted : l.follower.number + length l.rest ≤ length l.bytes + 1;
-      advances : Advances (answer_from (content l.fn.inferer) 1 None (cut l.bytes)) (answer_from (content l.follower.inferer) l.follower.number l.follower.last (cut l.rest)) (taken l.fn.out) (taken l.out);
-      later : faults l.fn.out ≤ faults l.out;
+      counted : l.follower.number ≤ l.taken + 1;
+      files : shelf.files l.shelf ≡ shelf.files l.fn.shelf;
+      asked : shelf.asked l.shelf ≡ shelf.asked l.fn.shelf;
+      calm : shelf.failed l.fn.shelf ≡ false → shelf.failed l.shelf ≡ false;
+      later : shelf.faults l.fn.shelf ≤ shelf.faults l.shelf;
+      out_later : faults l.fn.out ≤ faults l.out;
+      stands : (bytes : List ℕ) → shelf.rest l.fn.shelf ≡ Some bytes
+          → StandsBehind l.plan (content l.fn.inferer).full bytes l.taken (content l.follower.inferer) l.follower.number l.follower.last l.follower.liner (shelf.rest l.shelf) (taken l.fn.out) (taken l.out);
     }
 
--- the bytes that are left
-abbrev pub decreases-lines : goal.decreases-lines
-decreases-lines g l = length l.rest
+-- the bytes that are still allowed
+abbrev pub decreases-pieces : goal.decreases-pieces
+decreases-pieces g l = TRACE_LIMIT - l.taken

@@ -10,6 +10,7 @@ pub names-init : goal.names-init
 names-init g c = record {
   files = refl;
   later = omega arith;
+  calm = λ some. absurd (omega arith);
   count = ap length c.new-sources.ensures;
   room = ap (λ sources. total sources + specification_limit) c.new-sources.ensures;
   fits = nothing_passes specification_limit c.new-sources.result c.new-sources.ensures;
@@ -30,6 +31,7 @@ names-preserved g c =
     record {
       files = c.read_source.ensures.files ∙ c.names.invariant.files;
       later = omega (arith, c.read_source.ensures.never_falls, c.names.invariant.later);
+      calm = λ some. c.in_ok-source.ensures.failed;
       count = omega (arith, count, c.names.invariant.count);
       room = omega (arith, bytes, taken, low, c.names.invariant.room);
       fits = ap (passing specification_limit) pushed ∙ passing_more specification_limit c.names.room c.names.sources source c.names.invariant.fits c.names.invariant.room low;

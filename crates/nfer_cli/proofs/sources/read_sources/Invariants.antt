@@ -1,4 +1,4 @@
-use Rattle.std.proofs.Common.{◌≡◌, ◌+◌, ◌-◌, ◌<◌, ◌≤◌, [], length, take, map, None, IfSome}
+use Rattle.std.proofs.Common.{◌≡◌, ◌+◌, ◌-◌, ◌<◌, ◌≤◌, [], length, take, map, false, None, IfSome}
 use Rattle.std.specs.Prelude.{sum, slice_index_or}
 use Rattle.nfer_cli.specs.Answers.{StandsAtEnd, AsksWithin}
 use Rattle.nfer_cli.specs.Sources.{specification_limit, sources_of, passing}
@@ -9,6 +9,7 @@ abbrev pub invariant-names : goal.invariant-names
 invariant-names g l = let shelf = g.F.Shelf in record {
   files : shelf.files l.shelf ≡ shelf.files l.fn.shelf;
   later : shelf.faults l.fn.shelf ≤ shelf.faults l.shelf;
+  calm : 0 < l.place → shelf.failed l.shelf ≡ false;
   count : length l.sources ≡ l.place;
   room : sum (map length l.sources) + l.room ≡ specification_limit;
   fits : passing specification_limit l.sources ≡ None;
