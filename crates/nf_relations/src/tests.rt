@@ -26,8 +26,9 @@ static OPERATORS: [Op; 8] = [
 
 static BLOCKERS: [Xop; 3] = [Xop::After, Xop::Follow, Xop::Contain];
 
-// Two intervals of some length, then a point and an interval, an interval and a point, and two points.
-static PLACEMENTS: [Placement<'static>; 22] = [
+// All ways in which two intervals stand to one another, told by how their ends compare: both of some
+// length, one or both a point; and last those in which a point and an interval stand apart.
+static PLACEMENTS: [Placement<'static>; 26] = [
     ((1, 2), (4, 5), &[(Op::Before, (1, 5))], &[]),
     ((1, 3), (3, 5), &[(Op::Meet, (1, 5))], &[]),
     (
@@ -173,6 +174,10 @@ static PLACEMENTS: [Placement<'static>; 22] = [
         &[Xop::Follow, Xop::Contain],
     ),
     ((5, 5), (1, 1), &[], &[Xop::After]),
+    ((1, 1), (3, 4), &[(Op::Before, (1, 4))], &[]),
+    ((1, 2), (4, 4), &[(Op::Before, (1, 4))], &[]),
+    ((3, 4), (1, 1), &[], &[Xop::After]),
+    ((4, 4), (1, 2), &[], &[Xop::After]),
 ];
 
 /// The operators that hold of two intervals, each with its span.
