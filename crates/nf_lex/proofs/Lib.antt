@@ -10,3 +10,4 @@ pub mod Laying
 pub mod Existence
 pub mod Printed
 pub mod Spelled
+pub mod Whole

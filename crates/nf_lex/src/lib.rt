@@ -3,13 +3,16 @@
 //! The rule is `Divides` in specs/Division.antt: a source is words, one after the other and the longest
 //! at each place, which are separators, comments and tokens (specs/Words.antt), up to its end or to its
 //! first fault (specs/Faults.antt). `tokens` reads them in one pass and lends each as a span of the
-//! source. The crate stands on nf_text, which says what a plain text is. The parser stands above it.
+//! source. `is_identifier` says of a text of its own whether a source could have it as an identifier,
+//! by the same table of keywords. The crate stands on nf_text, which says what a plain text is. The
+//! parser stands above it.
 #![tactic(auto)]
 
 mod bytes;
 mod comments;
 mod fault;
 mod faults;
+mod identifiers;
 mod laws;
 mod piece;
 mod pieces;
@@ -20,6 +23,7 @@ mod words;
 
 pub use fault::LexFault;
 pub use faults::line_at;
+pub use identifiers::is_identifier;
 pub use laws::{division_is_one, tokens_are_written, words_are_read};
 pub use reader::tokens;
 pub use token::{Token, TokenKind};

@@ -139,3 +139,48 @@ fn reads_marks(rt: HostRuntime) -> Result<(), Fail> {
     }
     Ok(())
 }
+
+/// Texts, and whether each is an identifier. The keywords stand last.
+static TEXTS: [(&str, bool); 33] = [
+    ("", false),
+    ("_", true),
+    ("a1_", true),
+    ("1a", false),
+    ("Module", true),
+    ("modules", true),
+    ("a b", false),
+    ("a ", false),
+    ("a-", false),
+    ("a--", false),
+    ("aé", false),
+    ("é", false),
+    ("\"a\"", false),
+    ("module", false),
+    ("import", false),
+    ("where", false),
+    ("map", false),
+    ("begin", false),
+    ("end", false),
+    ("unless", false),
+    ("before", false),
+    ("meet", false),
+    ("during", false),
+    ("coincide", false),
+    ("start", false),
+    ("finish", false),
+    ("overlap", false),
+    ("slice", false),
+    ("after", false),
+    ("follow", false),
+    ("contain", false),
+    ("true", false),
+    ("false", false),
+];
+
+#[test]
+fn tells_identifiers(rt: HostRuntime) -> Result<(), Fail> {
+    for (text, want) in &TEXTS {
+        assert_eq!(rt; is_identifier(text.as_bytes()), *want);
+    }
+    Ok(())
+}
