@@ -1,8 +1,8 @@
 -- The kind that an expression is checked to have is its kind over the labels that it may read.
-use Rattle.std.proofs.Common.{◌≡◌, ℕ, Bool, true, false, cond, List, bytes_eq, Option, Some, None, Result, Ok, Err, refl, sym, ap, ◌∙◌, ◌&&◌}
+use Rattle.std.proofs.Common.{◌≡◌, ℕ, Bool, true, false, cond, List, bytes_eq, Some, None, Result, Ok, Err, refl, sym, ap, ◌∙◌, ◌&&◌}
 use Rattle.std.specs.List.{list_any}
 use Rattle.std.specs.Result.{result_ok}
-use Rattle.nf_core.specs.Kinds.{Kind, Number, Truth, Text, Any, may_be_number, may_be_truth, takes, gives, kind_of_negated, kind_of_inverted, kind_of_binary, kind_of_tree}
+use Rattle.nf_core.specs.Kinds.{Kind, Number, Truth, Any, may_be_number, may_be_truth, takes, gives, kind_of_negated, kind_of_inverted, kind_of_binary, kind_of_tree}
 use Rattle.nf_core.specs.Trees.{Tree}
 use Rattle.nf_core.specs.Trees as of
 use Rattle.nf_core.specs.declared.operators.BinOp.{BinOp}

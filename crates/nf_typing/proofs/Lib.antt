@@ -1,3 +1,4 @@
 pub mod Agree
 pub mod Right
 pub mod Steps
+pub mod Bodies

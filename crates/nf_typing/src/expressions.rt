@@ -11,14 +11,14 @@ use crate::clause::Clause;
 use crate::fault::KindFault;
 use crate::kind::{Kind, fits, gives, takes};
 use crate::labels::check_read;
-use nf_core::{BinOp, Body, Expr};
+use nf_core::{BinOp, Expr, Rule};
 
-/// The first fault of a clause of a rule with this body (`clause_fault` of specs/Faults).
+/// The first fault of a clause of a rule (`clause_fault` of specs/Faults).
 #[tactic(auto, unfolding(crate::specs::Faults::clause_fault, crate::specs::Faults::kind_fault))]
-pub(crate) fn check_clause(body: &Body, clause: Clause, expr: &Expr) -> Result<(), KindFault>
-    ensures { result_err result ≡ spec.clause_fault body.now clause expr.now }
+pub(crate) fn check_clause(rule: &Rule, clause: Clause, expr: &Expr) -> Result<(), KindFault>
+    ensures { result_err result ≡ spec.clause_fault rule.now.body clause expr.now }
 {
-    let kind = checked(body, clause, expr)?;
+    let kind = checked(rule, clause, expr)?;
     if !fits(clause, kind) {
         return Err(KindFault::WrongKind);
     }
@@ -29,26 +29,26 @@ pub(crate) fn check_clause(body: &Body, clause: Clause, expr: &Expr) -> Result<(
 // before right. It calls itself for each operand, so it stands as many calls deep as the expression has
 // nodes on a way down, which is at most one more than it has operators: at most 257 calls in a rule.
 #[tactic(auto, unfolding(crate::specs::Faults::checked, crate::specs::Faults::checked_read, crate::specs::Faults::checked_negated, crate::specs::Faults::checked_inverted, crate::specs::Faults::checked_binary))]
-fn checked(body: &Body, clause: Clause, expr: &Expr) -> Result<Kind, KindFault>
-    ensures { result_map_both kind_meant (λ fault. fault) result ≡ spec.checked (spec.readable_in clause body.now) (labels_of body.now) (tree expr.now) }
+fn checked(rule: &Rule, clause: Clause, expr: &Expr) -> Result<Kind, KindFault>
+    ensures { result_map_both kind_meant (λ fault. fault) result ≡ spec.checked (spec.readable_in clause rule.now.body) (labels_of rule.now.body) (tree expr.now) }
 {
     match expr {
         Expr::Bool(_) => Ok(Kind::Truth),
         Expr::Int(_) => Ok(Kind::Number),
         Expr::Text(_) => Ok(Kind::Text),
         Expr::Start(label) | Expr::Stop(label) => {
-            check_read(body, clause, label)?;
+            check_read(rule, clause, label)?;
             Ok(Kind::Number)
         }
         Expr::Key(label, _) => {
-            check_read(body, clause, label)?;
+            check_read(rule, clause, label)?;
             Ok(Kind::Any)
         }
-        Expr::Neg(operand) => negated(checked(body, clause, operand.get())?),
-        Expr::Not(operand) => inverted(checked(body, clause, operand.get())?),
+        Expr::Neg(operand) => negated(checked(rule, clause, operand.get())?),
+        Expr::Not(operand) => inverted(checked(rule, clause, operand.get())?),
         Expr::Bin(op, left, right) => {
-            let left = checked(body, clause, left.get())?;
-            let right = checked(body, clause, right.get())?;
+            let left = checked(rule, clause, left.get())?;
+            let right = checked(rule, clause, right.get())?;
             binary(*op, left, right)
         }
     }

@@ -13,7 +13,7 @@ use crate::clause::Clause;
 use crate::expressions::check_clause;
 use crate::fault::KindFault;
 use crate::labels::check_labels;
-use nf_core::{Body, Entry, Expr, Rule, Text};
+use nf_core::{Entry, Expr, Rule, Text};
 
 /// Whether the kinds of a rule are right. An error is exactly the first fault of the rule (`fault_of` of
 /// specs/Faults), in this order: SameLabel; the fault of `where`; for each entry of the map SameKey, where
@@ -38,42 +38,42 @@ pub fn check_rule(rule: &Rule) -> Result<(), KindFault>
 fn check_parts(rule: &Rule) -> Result<(), KindFault>
     ensures { result_err result ≡ spec.fault_of rule.now }
 {
-    check_labels(&rule.body)?;
-    check_optional(&rule.body, Clause::Filter, &rule.filter)?;
-    check_entries(&rule.body, rule.entries.as_slice())?;
-    check_optional(&rule.body, Clause::Start, &rule.start)?;
-    check_optional(&rule.body, Clause::Stop, &rule.stop)
+    check_labels(rule)?;
+    check_optional(rule, Clause::Filter, &rule.filter)?;
+    check_entries(rule, rule.entries.as_slice())?;
+    check_optional(rule, Clause::Start, &rule.start)?;
+    check_optional(rule, Clause::Stop, &rule.stop)
 }
 
 // The first fault of a clause that need not stand.
-fn check_optional(body: &Body, clause: Clause, expr: &Option<Expr>) -> Result<(), KindFault>
-    ensures { result_err result ≡ spec.optional_fault body.now clause expr.now }
+fn check_optional(rule: &Rule, clause: Clause, expr: &Option<Expr>) -> Result<(), KindFault>
+    ensures { result_err result ≡ spec.optional_fault rule.now.body clause expr.now }
 {
     match expr {
-        Some(expr) => check_clause(body, clause, expr),
+        Some(expr) => check_clause(rule, clause, expr),
         None => Ok(()),
     }
 }
 
 // The first fault of the entries of a map.
-fn check_entries(body: &Body, entries: &[Entry]) -> Result<(), KindFault>
-    ensures { result_err result ≡ spec.entries_fault body.now [] entries.now }
+fn check_entries(rule: &Rule, entries: &[Entry]) -> Result<(), KindFault>
+    ensures { result_err result ≡ spec.entries_fault rule.now.body [] entries.now }
 {
     'entries: for (place, entry) in entries.iter().enumerate() {
-        check_entry(body, &entries[..place], entry)?;
+        check_entry(rule, &entries[..place], entry)?;
     }
     Ok(())
 }
 
 // The first fault of an entry behind earlier ones.
 #[tactic(auto, using(crate::proofs::Steps::first_alone), unfolding(crate::specs::Faults::key_fault))]
-fn check_entry(body: &Body, earlier: &[Entry], entry: &Entry) -> Result<(), KindFault>
-    ensures { result_err result ≡ spec.first (spec.key_fault earlier.now entry.now ∷ spec.clause_fault body.now clause.Entry entry.now.value ∷ []) }
+fn check_entry(rule: &Rule, earlier: &[Entry], entry: &Entry) -> Result<(), KindFault>
+    ensures { result_err result ≡ spec.first (spec.key_fault earlier.now entry.now ∷ spec.clause_fault rule.now.body clause.Entry entry.now.value ∷ []) }
 {
     if has_key(earlier, &entry.key) {
         return Err(KindFault::SameKey);
     }
-    check_clause(body, Clause::Entry, &entry.value)
+    check_clause(rule, Clause::Entry, &entry.value)
 }
 
 // Whether an entry has this key.
