@@ -10,3 +10,6 @@ pub mod Heads
 pub mod Turned
 pub mod Bodies
 pub mod Numbers
+pub mod Decided
+pub mod Acyclic
+pub mod SameLevels

@@ -26,7 +26,7 @@ zip-names (n ∷ names) [] e = absurd (omega (arith, e))
 zip-names (n ∷ names) (l ∷ ls) e = ap (λ ns. n ∷ ns) (zip-names names ls (omega (arith, e)))
 
 -- a later name isn't the first one
-apart : (n : List ℕ) (names : List (List ℕ)) → IsDistinct text_eq (n ∷ names) → (k : ℕ) (d : List ℕ) → k < length names → bytes_eq (get_or names k d) n ≡ false
+pub apart : (n : List ℕ) (names : List (List ℕ)) → IsDistinct text_eq (n ∷ names) → (k : ℕ) (d : List ℕ) → k < length names → bytes_eq (get_or names k d) n ≡ false
 apart n names distinct k d h =
     nat_list_eq_equiv.symm (get_or names k d) n ∙ All-from_recursion (λ l. text_eq n l ≡ false) names (IsDistinct-head text_eq n names distinct) k d h
 

@@ -56,7 +56,7 @@ module _ (rules : List Rule) where
   cycle_of a there w = subst (λ t. DependsOn rules t t) (get_or-place_of names a there []) (cycle_down (place_of names a) w)
 
   -- what depends on something is a head
-  head_of : (a b : List ℕ) → DependsOn rules a b → (rule : Rule) × (Contains rules rule) × (rule.head ≡ a)
+  pub head_of : (a b : List ℕ) → DependsOn rules a b → (rule : Rule) × (Contains rules rule) × (rule.head ≡ a)
   head_of _ _ (Last a b (k, x, h, is, (e, c))) = (x, (k, h, is), e)
   head_of _ _ (More a m b (k, x, h, is, (e, c)) rest) = (x, (k, h, is), e)
 

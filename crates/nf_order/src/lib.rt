@@ -2,9 +2,10 @@
 //!
 //! `levels` answers the level of each name of some rules, which is `AreLevels` of nf_core's
 //! specs/Written.antt, or the first head that depends on itself, which is `IsFirstCycle` of
-//! specs/Dependence.antt; `one_order` says that there is one such answer. `names` numbers the names,
-//! `graph` says by number what rules read, `ordering` gives each number its level along a stack, with its
-//! notes in `marks`, `cycles` searches whether a number is on a cycle, and `order` puts them together.
+//! specs/Dependence.antt; `one_order` says that there always is such an answer, and only one. `names`
+//! numbers the names, `graph` says by number what rules read, `ordering` gives each number its level along
+//! a stack, with its notes in `marks`, `cycles` searches whether a number is on a cycle, and `order` puts
+//! them together.
 //! Below stands nf_core with the rules and their levels; above stands what compiles specifications.
 #![tactic(auto)]
 
