@@ -1,0 +1,13 @@
+pub mod Flat
+pub mod EachOnce
+pub mod Clauses
+pub mod KeyCounts
+pub mod Planned
+pub mod Totals
+pub mod Parsed
+pub mod Judged
+pub mod Selected
+pub mod Specified
+pub mod Existence
+pub mod PastLimit
+pub mod OneAnswer

@@ -1,0 +1,23 @@
+//! The one front door of specifications: what the sources of one are compiled to, by `Specifies` of
+//! specs/Specification.antt.
+//!
+//! `compile` answers the plan of the selected rules, with these rules and the levels of their names, or
+//! the first refusal; `every_specification_has_one_answer` says that there is one such answer. `sources`
+//! holds the bytes, `parsing` reads them file by file, `selecting` selects and judges the rules, and
+//! `compiling` puts the parts together. Below stand the crates of the parts: nf_parse, nf_modules,
+//! nf_typing and nf_order; above stands the program, which reads the files.
+#![tactic(auto)]
+
+mod compiling;
+mod fault;
+mod laws;
+mod parsing;
+mod selecting;
+mod sources;
+#[cfg(test)]
+mod tests;
+
+pub use compiling::{Compiled, compile};
+pub use fault::SpecFault;
+pub use laws::every_specification_has_one_answer;
+pub use sources::SourceList;
