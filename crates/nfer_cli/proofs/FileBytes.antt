@@ -2,7 +2,7 @@
 use Rattle.std.proofs.Common.{◌≡◌, ℕ, ◌+◌, ◌<◌, ◌≤◌, List, [], length, drop, Option, Some, None, IfSome, refl, sym, ◌∙◌, ap, arith, length-append, inl, inr}
 use Rattle.std.proofs.Math.Seq.{drop-append_seam}
 use Rattle.nf_io.specs.Files.{Files, bytes_of, asked_of}
-use Rattle.nfer_cli.specs.Answers.{StandsIn, StandsAtEnd, StandsShort}
+use Rattle.nfer_cli.specs.Answers.{StandsPastIn, StandsAtEnd, StandsShort, piece_limit}
 use Rattle.nfer_cli.specs.Reading.{HasRead, HasEnded, HasPassed, HasStopped}
 
 -- more than some bytes were read, and at most one piece past them
@@ -10,6 +10,7 @@ pub passed : (most piece : ℕ) (whole bytes : List ℕ) (rest : Option (List �
 passed most piece whole bytes rest read past within = record {
   read = length bytes;
   past = omega (arith, ap length read.split, length-append bytes read.left);
+  more = past;
   within = within;
   told = read.told ∙ ap Some (sym (ap (drop (length bytes)) read.split ∙ drop-append_seam bytes read.left));
 }
@@ -46,9 +47,9 @@ pub stands_at_end : (told : Option Files) (name bytes : List ℕ) (picked last n
 stands_at_end None name bytes picked last now asked stays ended = tt
 stands_at_end (Some files) name bytes picked last now asked stays ended = record { asked_is = stays ∙ asked; rest_is = ended.told }
 
-pub stands_in : (told : Option Files) (name : List ℕ) (most piece : ℕ) (picked last now : Option (List ℕ)) → IfSome told (λ files. picked ≡ Some (asked_of files name)) → last ≡ picked → IfSome told (λ files. HasPassed most piece (bytes_of files name) now) → IfSome told (λ files. StandsIn files name (most + piece) last now)
-stands_in None name most piece picked last now asked stays passes = tt
-stands_in (Some files) name most piece picked last now asked stays passes = record { asked_is = stays ∙ asked; read = passes.read; within = passes.within; rest_is = passes.told }
+pub stands_past : (told : Option Files) (name : List ℕ) (most : ℕ) (picked last now : Option (List ℕ)) → IfSome told (λ files. picked ≡ Some (asked_of files name)) → last ≡ picked → IfSome told (λ files. HasPassed most piece_limit (bytes_of files name) now) → IfSome told (λ files. StandsPastIn files name most last now)
+stands_past None name most picked last now asked stays passes = tt
+stands_past (Some files) name most picked last now asked stays passes = record { asked_is = stays ∙ asked; read = passes.read; past = passes.more; within = passes.within; rest_is = passes.told }
 
 pub unpicked : (told : Option Files) (name : List ℕ) (most : ℕ) (last now : Option (List ℕ)) → now ≡ None → IfSome told (λ files. StandsShort files name most last now)
 unpicked None name most last now none = tt

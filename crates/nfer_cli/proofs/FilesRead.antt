@@ -1,11 +1,13 @@
 -- Files read one after the other.
 use Rattle.std.proofs.Common.{◌≡◌, ℕ, ◌+◌, ◌-◌, ◌<◌, ◌≤◌, List, [], ◌∷◌, ◌++◌, length, take, drop, map, get_or, Option, Some, None, IfSome, refl, sym, ap, ◌∙◌, subst, arith, inl, inr}
 use Rattle.std.specs.Prelude.{slice_index_or}
-use Rattle.std.proofs.lemmas.List.{take_more, take_all, drop_more, take-append-drop, take-map, map-append}
+use Rattle.std.proofs.lemmas.List.{take_more, take_all, drop_more, take-append-drop, map-append}
 use Rattle.nf_io.specs.Files.{Files, bytes_of, asked_of}
-use Rattle.nfer_cli.specs.Answers.{StandsIn, StandsAtEnd, StandsPast, AsksWithin, piece_limit}
-use Rattle.nfer_cli.specs.Sources.{specification_limit, sources_of, passing}
-use Rattle.nfer_cli.proofs.Passing.{total, passing_here}
+use Rattle.nf_spec.specs.Sources.{specification_limit, total}
+use Rattle.nfer_cli.specs.Answers.{StandsPastIn, StandsAtEnd, StandsPast, AsksWithin}
+use Rattle.nfer_cli.specs.Sources.{sources_of, passing}
+use Rattle.nfer_cli.proofs.Passing.{passing_here}
+use Rattle.nfer_cli.proofs.ShortRead.{allowed_here}
 
 pub nothing_passes : (room : ℕ) (sources : List (List ℕ)) → sources ≡ [] → passing room sources ≡ None
 unfolding passing
@@ -44,7 +46,7 @@ ends_before told names place last rest h =
 -- the file at a place has more bytes than are left
 pub past_here : (told : Option Files) (names : List (List ℕ)) (place left : ℕ) (sources : List (List ℕ)) (last rest : Option (List ℕ)) → place < length names → length sources ≡ place → total sources + left ≡ specification_limit
     → passing specification_limit sources ≡ None → IfSome told (λ files. sources ≡ sources_of files (take place names))
-    → IfSome told (λ files. left < length (bytes_of files (slice_index_or names place []))) → IfSome told (λ files. StandsIn files (slice_index_or names place []) (left + piece_limit) last rest)
+    → IfSome told (λ files. left < length (bytes_of files (slice_index_or names place []))) → IfSome told (λ files. StandsPastIn files (slice_index_or names place []) left last rest)
     → IfSome told (λ files. StandsPast names files last rest)
 past_here None names place left sources last rest low count room fits known long stands = tt
 past_here (Some files) names place left sources last rest low count room fits known long stands =
@@ -52,13 +54,10 @@ past_here (Some files) names place left sources last rest low count room fits kn
     let parts : names ≡ take place names ++ name ∷ drop (place + 1) names = sym (take-append-drop place names) ∙ ap (λ (after : List (List ℕ)). take place names ++ after) (drop_more names place [] low) in
     let whole : sources_of files names ≡ sources ++ bytes_of files name ∷ sources_of files (drop (place + 1) names) =
     ap (sources_of files) parts ∙ map-append (bytes_of files) (take place names) (name ∷ drop (place + 1) names) ∙ ap (λ (ss : List (List ℕ)). ss ++ bytes_of files name ∷ sources_of files (drop (place + 1) names)) (sym known) in
-    let before : take place (sources_of files names) ≡ sources = take-map (bytes_of files) place names ∙ sym known in
-    let bytes : total (take place (sources_of files names)) ≡ total sources = ap total before in
-    let most : left + piece_limit ≡ specification_limit + piece_limit - total (take place (sources_of files names)) = omega arith in
     record {
       place = place;
       passes = ap (passing specification_limit) whole ∙ passing_here specification_limit left sources (sources_of files (drop (place + 1) names)) (bytes_of files name) fits room long ∙ ap Some count;
-      stands = subst (λ n. StandsIn files name n last rest) most stands;
+      stands = subst (λ n. StandsPastIn files name n last rest) (allowed_here files names place left sources low room known) stands;
     }
 
 -- all files are read

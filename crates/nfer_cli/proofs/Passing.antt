@@ -4,11 +4,8 @@ use Rattle.std.specs.Prelude.{nat_lt, sum}
 use Rattle.std.proofs.lemmas.Bool.Decides.{nat_tests}
 use Rattle.std.proofs.lemmas.List.{take-append-drop, map-append}
 use Rattle.std.proofs.lemmas.List.Sums.{sum_by-append, sum_by-cons}
+use Rattle.nf_spec.specs.Sources.{total}
 use Rattle.nfer_cli.specs.Sources.{passing}
-
--- how many bytes some sources have together
-abbrev pub total : List (List ℕ) → ℕ
-total sources = sum (map length sources)
 
 pub total_cons : (source : List ℕ) (sources : List (List ℕ)) → total (source ∷ sources) ≡ length source + total sources
 total_cons source sources = sum_by-cons (λ x. x) (length source) (map length sources)

@@ -18,9 +18,9 @@ use Rattle.nf_line.specs.declared.faults.TraceFault.TheVariants as trace_fault
 use Rattle.nf_model.specs.Changes.{Content, change}
 use Rattle.nfer_cli.specs.Announcements.{change_text}
 use Rattle.nfer_cli.specs.Follow.{follow_text, text_at, due, content_after}
-use Rattle.nfer_cli.specs.Answers.{status_of, LeftBehindPiece, LeftOfTrace, piece_limit}
+use Rattle.nfer_cli.specs.Answers.{status_of, LeftBehindPiece, LeftOfTrace, piece_limit, is_read_fault}
 use Rattle.nfer_cli.specs.Ended.{EndsTrace, StandsBehind}
-use Rattle.nfer_cli.specs.Results.{end_of}
+use Rattle.nfer_cli.specs.Results.{end_of, IsFollowEnd}
 use Rattle.nfer_cli.specs.Progress.{StandsFor, Stops, TookOn}
 use Rattle.nfer_cli.specs.declared.status.Status.{Status}
 use Rattle.nfer_cli.specs.declared.status.Status.TheVariants as status
@@ -358,3 +358,12 @@ ends_at_limit at_limit plan full place bytes read content number last kept rest 
 pub limit_is : trace_limit ≡ 9223372036854775807
 unfolding trace_limit
 limit_is = refl
+
+-- following a trace that was read ends with no read fault
+pub follow_is_read : (s : Status) → IsFollowEnd s → is_read_fault s ≡ false
+follow_is_read (status.ReadFault place) kind = absurd kind
+follow_is_read other kind = refl
+
+pub end_is_read : (result : Result (Unit {0}) Status) → IfErr result IsFollowEnd → is_read_fault (end_of result) ≡ false
+end_is_read (Ok done) kind = refl
+end_is_read (Err s) kind = follow_is_read s kind

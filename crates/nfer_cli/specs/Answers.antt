@@ -1,8 +1,6 @@
 -- The defined answer to the words and the files, and how the end of a call stands to it.
 use Rattle.std.specs.Prelude.{◌≡◌, ◌⊎◌, ℕ, suc, ◌+◌, ◌-◌, ◌≤◌, ◌<◌, Bool, true, false, List, [], drop, take, map, sum, length, Ok, Err, Option, Some, None, IfSome, ⊤, slice_index_or}
 use Rattle.nf_core.specs.Plan.{Plan}
-use Rattle.nf_core.specs.Trees.{Rule}
-use Rattle.nf_core.specs.declared.trees.Module.{Module}
 use Rattle.nf_io.specs.Files.{Files, bytes_of, asked_of}
 use Rattle.nf_io.specs.Causes.{Rose}
 use Rattle.nf_io.specs.Bytes.{Took, TookAtLeast, TookPart, TookPrefix}
@@ -10,12 +8,14 @@ use Rattle.nf_line.specs.Line.{Long, NotText, Fields, Time, Key, Counts}
 use Rattle.nf_line.specs.Trace.{Ending, Done, Refused, TooLong, InNoForm, Falls, trace, trace_limit, trace_so_far}
 use Rattle.nf_line.specs.declared.faults.LineFault.TheVariants as line_fault
 use Rattle.nf_line.specs.declared.faults.TraceFault.TheVariants as trace_fault
-use Rattle.nf_parse.specs.declared.fault.ParseFault.{ParseFault}
-use Rattle.nf_parse.specs.declared.fault.ParseFault.TheVariants as fault
-use Rattle.nf_typing.specs.declared.fault.KindFault.{KindFault}
-use Rattle.nfer_cli.specs.Words.{Asked, Follow, file_words, trace_word}
-use Rattle.nfer_cli.specs.Sources.{specification_limit, sources_of, passing, AreParsed}
-use Rattle.nfer_cli.specs.Specification.{rules_of, kind_fault, IsPlanOf}
+use Rattle.nf_spec.specs.Sources.{specification_limit}
+use Rattle.nf_spec.specs.Specification.{Specifies}
+use Rattle.nf_spec.specs.declared.compiling.Compiled.{Compiled}
+use Rattle.nf_spec.specs.declared.fault.SpecFault.{SpecFault}
+use Rattle.nf_spec.specs.declared.fault.SpecFault.TheVariants as fault
+use Rattle.nfer_cli.specs.Words.{Asked, Check, Follow, trace_word}
+use Rattle.nfer_cli.specs.Sources.{sources_of, passing}
+use Rattle.nfer_cli.specs.Listing.{listing}
 use Rattle.nfer_cli.specs.Follow.{follow_text, due}
 use Rattle.nfer_cli.specs.declared.status.Status.{Status}
 use Rattle.nfer_cli.specs.declared.status.Status.TheVariants as status
@@ -54,32 +54,25 @@ followed plan full bytes = record {
   status = status_of (trace bytes).ending;
 }
 
--- the status of a refused source, by its place among the files
-abbrev pub refused_at : ℕ → ParseFault → Status
-refused_at place (fault.Lex lexical) = status.Lexical place lexical
-refused_at place (fault.Grammar line) = status.Grammar place line
-refused_at place (fault.TooDeep line) = status.TooDeep place line
-refused_at place fault.NoMemory = status.NoMemory
+-- `check` over what a specification is compiled to: its rules in canonical form
+abbrev pub checked : Compiled → Answer
+checked made = record { text = listing made.levels made.rules; due_at = λ read. []; status = status.Done }
 
--- the answer of `follow --full` to the sources of a specification and the bytes of a trace, and how many files are read before it is known:
--- all sources together are too long, which is known with the source that passes the limit; or, all of them being read, one is refused, or they are in no form that this stage builds, or the kinds of a rule aren't right; or the trace is followed under their plan
-pub data FollowDefines (sources : List (List ℕ)) (bytes : List ℕ) : ℕ → Answer → Type 0 where
-  too_long : {place : ℕ} → passing specification_limit sources ≡ Some place → FollowDefines sources bytes (suc place) (refusal status.SpecificationTooLong)
-  refused : {place : ℕ} {fault : ParseFault} → passing specification_limit sources ≡ None → AreParsed sources (Err (place, fault)) → FollowDefines sources bytes (length sources) (refusal (refused_at place fault))
-  unbuilt : {modules : List Module} → passing specification_limit sources ≡ None → AreParsed sources (Ok modules) → rules_of modules ≡ None → FollowDefines sources bytes (length sources) (refusal status.Unbuilt)
-  kinds : {modules : List Module} {rules : List Rule} {number : ℕ} {fault : KindFault} → passing specification_limit sources ≡ None → AreParsed sources (Ok modules) → rules_of modules ≡ Some rules → kind_fault rules ≡ Some (number, fault)
-      → FollowDefines sources bytes (length sources) (refusal (status.Kinds number fault))
-  planned : {modules : List Module} {rules : List Rule} {plan : Plan} → passing specification_limit sources ≡ None → AreParsed sources (Ok modules) → rules_of modules ≡ Some rules → kind_fault rules ≡ None → IsPlanOf rules plan
-      → FollowDefines sources bytes (suc (length sources)) (followed plan true bytes)
+-- sources under a root, or without one, are refused, and how many of them are read before it is known: all together are too long, which is known with the source that passes the limit; or, all of them being read, they define no plan
+pub data Refuses (sources : List (List ℕ)) (root : Option (List ℕ)) : ℕ → SpecFault → Type 0 where
+  too_long : {place : ℕ} → passing specification_limit sources ≡ Some place → Refuses sources root (suc place) fault.TooLong
+  defines_none : {why : SpecFault} → passing specification_limit sources ≡ None → Specifies sources root (Err why) → Refuses sources root (length sources) why
+
+-- the answer of a command over the sources of a specification, and how many files are read before it is known: the sources are refused; or, all of them and so many more files being read, it is what the command makes of what they are compiled to
+pub data Over (sources : List (List ℕ)) (root : Option (List ℕ)) (more : ℕ) (answer_of : Compiled → Answer) : ℕ → Answer → Type 0 where
+  refused : {reads : ℕ} {why : SpecFault} → Refuses sources root reads why → Over sources root more answer_of reads (refusal (status.Specification why))
+  accepted : {made : Compiled} → passing specification_limit sources ≡ None → Specifies sources root (Ok made) → Over sources root more answer_of (more + length sources) (answer_of made)
 
 -- the defined answer to what is asked, over the files, and how many of the command's files are read before it is known
 abbrev pub Defines : Option Asked → Files → ℕ → Answer → Type 0
 Defines None files reads answer = (reads ≡ 0) × (answer ≡ refusal status.Usage)
-Defines (Some (Follow names)) files reads answer = FollowDefines (sources_of files names) (bytes_of files trace_word) reads answer
-
--- the place of the trace among a command's files: it is the last one
-abbrev pub trace_place : Option Asked → ℕ
-trace_place asked = length (file_words asked) - 1
+Defines (Some (Check root names)) files reads answer = Over (sources_of files names) root 0 checked reads answer
+Defines (Some (Follow full root names)) files reads answer = Over (sources_of files names) root 1 (λ made. followed made.plan full (bytes_of files trace_word)) reads answer
 
 -- a call ends with the defined status, or with a fault that comes before it, or with want of memory: a read fault comes only at a file that is read before the status is known
 abbrev pub EndsFor : ℕ → Status → Status → Type 0
@@ -106,12 +99,25 @@ pub record WrotePart (answer : Answer) (bytes : List ℕ) (rest before now : Opt
   pub due_is_written : TookAtLeast before now (answer.due_at earlier)
   pub part : TookPart before now answer.text
 
--- what was taken of the defined text: the whole of it, unless a read or a write failed or memory was wanted; then a prefix
-abbrev pub Wrote : Status → (trace : ℕ) (answer : Answer) (bytes : List ℕ) (rest before now : Option (List ℕ)) → Type 0
-Wrote (status.ReadFault place) trace answer bytes rest before now = WroteShort trace place answer bytes rest before now
-Wrote status.WriteFault trace answer bytes rest before now = WrotePart answer bytes rest before now
-Wrote status.NoMemory trace answer bytes rest before now = TookPrefix before now answer.text
-Wrote result trace answer bytes rest before now = Took before now answer.text
+-- what was taken of the defined text by a command that follows a trace, which is the file at a place: the whole of it, unless a read or a write failed or memory was wanted; then a prefix
+abbrev pub WroteFollowing : Status → (trace : ℕ) (answer : Answer) (bytes : List ℕ) (rest before now : Option (List ℕ)) → Type 0
+WroteFollowing (status.ReadFault place) trace answer bytes rest before now = WroteShort trace place answer bytes rest before now
+WroteFollowing status.WriteFault trace answer bytes rest before now = WrotePart answer bytes rest before now
+WroteFollowing status.NoMemory trace answer bytes rest before now = TookPrefix before now answer.text
+WroteFollowing result trace answer bytes rest before now = Took before now answer.text
+
+-- what was taken of the defined text by a command that writes once all is read: nothing where a read failed or memory was wanted, less than the whole where a write failed, and else the whole
+abbrev pub WroteAtEnd : Status → Answer → (before now : Option (List ℕ)) → Type 0
+WroteAtEnd (status.ReadFault place) answer before now = Took before now []
+WroteAtEnd status.WriteFault answer before now = TookPart before now answer.text
+WroteAtEnd status.NoMemory answer before now = Took before now []
+WroteAtEnd result answer before now = Took before now answer.text
+
+-- what was taken of the defined text, by what is asked
+abbrev pub Wrote : Option Asked → Files → Status → Answer → (rest before now : Option (List ℕ)) → Type 0
+Wrote None files result answer rest before now = WroteAtEnd result answer before now
+Wrote (Some (Check root names)) files result answer rest before now = WroteAtEnd result answer before now
+Wrote (Some (Follow full root names)) files result answer rest before now = WroteFollowing result (length names) answer (bytes_of files trace_word) rest before now
 
 -- a sink got a text: the whole of it unless the sink failed, and a prefix of it in any case
 pub record Reports (before now : Option (List ℕ)) (faults_before faults_now : ℕ) (text : List ℕ) : Type 0 where
@@ -124,7 +130,7 @@ pub record Answers (asked : Option Asked) (files : Files) (result : Status) (res
   pub answer : Answer
   pub defined : Defines asked files reads answer
   pub ends : EndsFor reads result answer.status
-  pub writes : Wrote result (trace_place asked) answer (bytes_of files trace_word) rest before now
+  pub writes : Wrote asked files result answer rest before now
 
 -- one of the files with these names couldn't be read: the shelf's faults rose, its last call failed, and it was asked for that file
 pub record CannotRead (names : List (List ℕ)) (place : ℕ) (files : Option Files) (before now : ℕ) (failed : Bool) (last : Option (List ℕ)) : Type 0 where
@@ -198,19 +204,27 @@ abbrev pub TraceReadsTo : Status → Files → Option (List ℕ) → Option (Lis
 TraceReadsTo status.NoMemory files last rest = ⊤
 TraceReadsTo result files last rest = (last ≡ Some (asked_of files trace_word)) × LeftOfTrace result (bytes_of files trace_word) rest
 
--- the files of a specification were read up to the one with which they are too long, and of that one to one piece past the limit at most
-pub record StandsPast (names : List (List ℕ)) (files : Files) (last rest : Option (List ℕ)) : Type 0 where
-  pub place : ℕ
-  pub passes : passing specification_limit (sources_of files names) ≡ Some place
-  pub stands : StandsIn files (slice_index_or names place []) (specification_limit + piece_limit - sum (map length (take place (sources_of files names)))) last rest
-
--- the files of a specification were read, each to its end
-abbrev pub StandsAfter : List (List ℕ) → Files → Option (List ℕ) → Option (List ℕ) → Type 0
-StandsAfter names files last rest = StandsAtEnd files (slice_index_or names (length names - 1) []) last rest
-
 -- how many bytes are allowed of the specification's file at a place: what the files before it leave of the limit
 abbrev pub allowed_at : List (List ℕ) → Files → ℕ → ℕ
 allowed_at names files place = specification_limit - sum (map length (take place (sources_of files names)))
+
+-- the shelf stands in a file of which more than some bytes were read, and at most one piece past them
+pub record StandsPastIn (files : Files) (name : List ℕ) (most : ℕ) (last rest : Option (List ℕ)) : Type 0 where
+  pub asked_is : last ≡ Some (asked_of files name)
+  pub read : ℕ
+  pub past : most < read
+  pub within : read ≤ most + piece_limit
+  pub rest_is : rest ≡ Some (drop read (bytes_of files name))
+
+-- reading stands in the file of a specification with which the files are too long, past what is allowed of it by one piece at most
+pub record StandsPast (names : List (List ℕ)) (files : Files) (last rest : Option (List ℕ)) : Type 0 where
+  pub place : ℕ
+  pub passes : passing specification_limit (sources_of files names) ≡ Some place
+  pub stands : StandsPastIn files (slice_index_or names place []) (allowed_at names files place) last rest
+
+-- reading stands at the end of the last file of a specification
+abbrev pub StandsAfter : List (List ℕ) → Files → Option (List ℕ) → Option (List ℕ) → Type 0
+StandsAfter names files last rest = StandsAtEnd files (slice_index_or names (length names - 1) []) last rest
 
 -- where reading stood where a read of a file failed: in a file of the specification no more than the allowed bytes were read before, and in the trace no refusal was known
 abbrev pub ReadShort : List (List ℕ) → ℕ → Files → Option (List ℕ) → Option (List ℕ) → Type 0
@@ -218,21 +232,29 @@ ReadShort names place files last rest =
     ((place < length names) × StandsShort files (slice_index_or names place []) (allowed_at names files place) last rest)
     ⊎ ((place ≡ length names) × TraceReadsTo (status.ReadFault place) files last rest)
 
--- where reading stood at the end: no read is made after a refusal is known, and at most one piece was read past the byte that shows it
+-- where reading stood where a specification was refused: no read is made after that is known
+abbrev pub RefusedReadsTo : List (List ℕ) → SpecFault → Files → Option (List ℕ) → Option (List ℕ) → Type 0
+RefusedReadsTo names fault.TooLong files last rest = StandsPast names files last rest
+RefusedReadsTo names other files last rest = StandsAfter names files last rest
+
+-- where reading stood at the end of following a trace: no read is made after a refusal is known, and at most one piece was read past the byte that shows it
 abbrev pub FollowReadsTo : List (List ℕ) → Status → Files → Option (List ℕ) → Option (List ℕ) → Type 0
-FollowReadsTo names status.SpecificationTooLong files last rest = StandsPast names files last rest
-FollowReadsTo names (status.Lexical place fault) files last rest = StandsAfter names files last rest
-FollowReadsTo names (status.Grammar place line) files last rest = StandsAfter names files last rest
-FollowReadsTo names (status.TooDeep place line) files last rest = StandsAfter names files last rest
-FollowReadsTo names status.Unbuilt files last rest = StandsAfter names files last rest
-FollowReadsTo names (status.Kinds number fault) files last rest = StandsAfter names files last rest
+FollowReadsTo names (status.Specification why) files last rest = RefusedReadsTo names why files last rest
 FollowReadsTo names (status.ReadFault place) files last rest = ReadShort names place files last rest
 FollowReadsTo names result files last rest = TraceReadsTo result files last rest
+
+-- where reading stood at the end of a command that reads a specification alone
+abbrev pub CheckReadsTo : List (List ℕ) → Status → Files → Option (List ℕ) → Option (List ℕ) → Type 0
+CheckReadsTo names (status.Specification why) files last rest = RefusedReadsTo names why files last rest
+CheckReadsTo names (status.ReadFault place) files last rest = StandsShort files (slice_index_or names place []) (allowed_at names files place) last rest
+CheckReadsTo names status.NoMemory files last rest = ⊤
+CheckReadsTo names result files last rest = StandsAfter names files last rest
 
 -- where reading stood at the end of a call, by what is asked: words in no form leave the shelf as it was
 abbrev pub ReadsTo : Option Asked → Status → Files → (asked_before rest_before last rest : Option (List ℕ)) → Type 0
 ReadsTo None result files asked_before rest_before last rest = (last ≡ asked_before) × (rest ≡ rest_before)
-ReadsTo (Some (Follow names)) result files asked_before rest_before last rest = FollowReadsTo names result files last rest
+ReadsTo (Some (Check root names)) result files asked_before rest_before last rest = CheckReadsTo names result files last rest
+ReadsTo (Some (Follow full root names)) result files asked_before rest_before last rest = FollowReadsTo names result files last rest
 
 -- the file that was asked for last is one of these, or is still that of before the call
 abbrev pub AsksWithin : List (List ℕ) → Files → Option (List ℕ) → Option (List ℕ) → Type 0

@@ -5,7 +5,7 @@ use Rattle.nf_io.specs.Bytes.{Took}
 use Rattle.nf_line.specs.Cutting as cutting
 use Rattle.nf_line.specs.Trace.{Done, trace_so_far}
 use Rattle.nf_model.specs.Changes.{Content}
-use Rattle.nfer_cli.specs.Answers.{Answer, FollowDefines, EndsFor, Wrote, LeftOfTrace, followed}
+use Rattle.nfer_cli.specs.Answers.{EndsFor, WroteFollowing, LeftOfTrace, followed}
 use Rattle.nfer_cli.specs.Follow.{due}
 use Rattle.nfer_cli.specs.Progress.{StandsFor}
 use Rattle.nfer_cli.specs.declared.status.Status.{Status}
@@ -13,16 +13,8 @@ use Rattle.nfer_cli.specs.declared.status.Status.{Status}
 -- a trace of these bytes, which is the file at a place, was followed: with the defined status or with a fault or want of memory before it, with what was taken of the defined text, and with what is left of the trace
 pub record EndsTrace (plan : Plan) (full : Bool) (place : ℕ) (bytes : List ℕ) (result : Status) (rest before now : Option (List ℕ)) : Type 0 where
   pub ends : EndsFor (place + 1) result (followed plan full bytes).status
-  pub writes : Wrote result place (followed plan full bytes) bytes rest before now
+  pub writes : WroteFollowing result place (followed plan full bytes) bytes rest before now
   pub left : LeftOfTrace result bytes rest
-
--- a trace was followed under the specification of some sources, or the specification was refused
-pub record AnswersFollow (sources : List (List ℕ)) (bytes : List ℕ) (result : Status) (rest before now : Option (List ℕ)) : Type 0 where
-  pub reads : ℕ
-  pub answer : Answer
-  pub defined : FollowDefines sources bytes reads answer
-  pub ends : EndsFor reads result answer.status
-  pub writes : Wrote result (length sources) answer bytes rest before now
 
 -- following stands behind so many bytes of a trace: the follower stands for them, no refusal is known of them, the text that is due with them was taken, and the others are left
 pub record StandsBehind (plan : Plan) (full : Bool) (bytes : List ℕ) (read : ℕ) (content : Content) (number : ℕ) (last : Option ℤ) (kept : cutting.Content) (rest before now : Option (List ℕ)) : Type 0 where

@@ -7,6 +7,8 @@ use Rattle.nf_line.specs.declared.faults.LineFault.{LineFault}
 use Rattle.nf_line.specs.declared.faults.LineFault.TheVariants as line_fault
 use Rattle.nf_line.specs.declared.faults.TraceFault.{TraceFault}
 use Rattle.nf_line.specs.declared.faults.TraceFault.TheVariants as trace_fault
+use Rattle.nf_spec.specs.declared.fault.SpecFault.{SpecFault}
+use Rattle.nf_spec.specs.declared.fault.SpecFault.TheVariants as fault
 use Rattle.nf_typing.specs.declared.fault.KindFault.{KindFault}
 use Rattle.nf_typing.specs.declared.fault.KindFault.TheVariants as kind
 use Rattle.nfer_cli.specs.Words.{file_word}
@@ -43,6 +45,10 @@ kind_text kind.WrongKind = codes "wrong kind"
 kind_text kind.SecondLabel = codes "second label"
 kind_text kind.SameKey = codes "same key"
 
+-- a refusal of a rule, by its number
+abbrev pub at_rule : ℕ → List ℕ → List ℕ
+at_rule number what = codes "nfer: rule " ++ decimal number ++ codes ": " ++ what ++ codes "\n"
+
 -- what is shown of a line's fault
 abbrev pub line_text : LineFault → List ℕ
 line_text line_fault.NotText = codes "not text"
@@ -62,17 +68,24 @@ trace_message (trace_fault.Line number fault) = at_trace_line number (line_text 
 trace_message (trace_fault.Order number kept found) = at_trace_line number (codes "time " ++ signed_decimal found ++ codes " after " ++ signed_decimal kept)
 trace_message trace_fault.TooLong = codes "nfer: input too long\n"
 
+-- the message of a refused specification, whose files are given by their places among the command's file words
+unfoldable pub specification_message : List (List ℕ) → SpecFault → List ℕ
+specification_message words fault.TooLong = codes "nfer: specification too long\n"
+specification_message words (fault.Lex place why) = at_line (file_word words place) (fault_line why) (fault_text why)
+specification_message words (fault.Grammar place line) = at_line (file_word words place) line (codes "grammar")
+specification_message words (fault.TooDeep place line) = at_line (file_word words place) line (codes "too deep")
+specification_message words (fault.NoModule name) = codes "nfer: no module " ++ name ++ codes "\n"
+specification_message words (fault.SameModule name) = codes "nfer: module " ++ name ++ codes " twice\n"
+specification_message words (fault.Kinds number why) = at_rule number (kind_text why)
+specification_message words (fault.Cycle head) = codes "nfer: cycle at " ++ head ++ codes "\n"
+specification_message words fault.NoMemory = codes "nfer: no memory\n"
+
 -- the message of a status, and nothing where all is done
 unfoldable pub message : List (List ℕ) → Status → List ℕ
 message words status.Done = []
 message words status.Usage = codes "nfer: usage\n"
-message words status.SpecificationTooLong = codes "nfer: specification too long\n"
-message words (status.Lexical place fault) = at_line (file_word words place) (fault_line fault) (fault_text fault)
-message words (status.Grammar place line) = at_line (file_word words place) line (codes "grammar")
-message words (status.TooDeep place line) = at_line (file_word words place) line (codes "too deep")
-message words status.Unbuilt = codes "nfer: unbuilt\n"
-message words (status.Kinds number fault) = codes "nfer: rule " ++ decimal number ++ codes ": " ++ kind_text fault ++ codes "\n"
-message words (status.Trace fault) = trace_message fault
+message words (status.Specification why) = specification_message words why
+message words (status.Trace why) = trace_message why
 message words (status.ReadFault place) = codes "nfer: cannot read " ++ file_word words place ++ codes "\n"
 message words status.WriteFault = codes "nfer: cannot write\n"
 message words status.NoMemory = codes "nfer: no memory\n"

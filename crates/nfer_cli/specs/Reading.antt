@@ -24,6 +24,7 @@ pub record HasStopped (most : ℕ) (whole : List ℕ) (rest : Option (List ℕ))
 pub record HasPassed (most piece : ℕ) (whole : List ℕ) (rest : Option (List ℕ)) : Type 0 where
   pub read : ℕ
   pub past : most < length whole
+  pub more : most < read
   pub within : read ≤ most + piece
   pub told : rest ≡ Some (drop read whole)
 

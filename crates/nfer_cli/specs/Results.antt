@@ -1,5 +1,6 @@
 -- The status of a call that answers nothing else.
 use Rattle.std.specs.Prelude.{◌≡◌, ℕ, Bool, false, Result, Ok, Err, ⊤}
+use Rattle.nf_spec.specs.declared.fault.SpecFault.TheVariants as fault
 use Rattle.nfer_cli.specs.Answers.{is_read_fault}
 use Rattle.nfer_cli.specs.declared.status.Status.{Status}
 use Rattle.nfer_cli.specs.declared.status.Status.TheVariants as status
@@ -31,15 +32,22 @@ IsTraceEnd trace status.WriteFault = ⊤
 IsTraceEnd trace status.NoMemory = ⊤
 IsTraceEnd trace other = ⊥
 
--- the statuses that following a trace under some sources can end with
-abbrev pub IsSourcesEnd : Status → Type 0
-IsSourcesEnd status.Usage = ⊥
-IsSourcesEnd status.SpecificationTooLong = ⊥
-IsSourcesEnd other = ⊤
-
 -- the statuses with which reading the files of a specification can end
 abbrev pub IsUnread : Status → Type 0
-IsUnread status.SpecificationTooLong = ⊤
+IsUnread (status.Specification why) = why ≡ fault.TooLong
 IsUnread (status.ReadFault place) = ⊤
 IsUnread status.NoMemory = ⊤
 IsUnread other = ⊥
+
+-- the statuses with which reading and compiling a specification can end
+abbrev pub IsUnspecified : Status → Type 0
+IsUnspecified (status.Specification why) = ⊤
+IsUnspecified (status.ReadFault place) = ⊤
+IsUnspecified status.NoMemory = ⊤
+IsUnspecified other = ⊥
+
+-- the statuses with which writing can end
+abbrev pub IsUnwritten : Status → Type 0
+IsUnwritten status.WriteFault = ⊤
+IsUnwritten status.NoMemory = ⊤
+IsUnwritten other = ⊥

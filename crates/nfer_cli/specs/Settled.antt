@@ -1,13 +1,13 @@
 -- What is settled of an answer.
 use Rattle.std.specs.Prelude.{◌≡◌, ℕ}
+use Rattle.nf_spec.specs.Settled.{settled_fault}
 use Rattle.nfer_cli.specs.Answers.{Answer}
 use Rattle.nfer_cli.specs.declared.status.Status.{Status}
 use Rattle.nfer_cli.specs.declared.status.Status.TheVariants as status
 
--- a status without what isn't settled of it: of a refusal as grammar or too deep the line, and which of the two it is
+-- a status without what isn't settled of it: of a specification that is refused as grammar or too deep the line, and which of the two it is
 abbrev pub settled : Status → Status
-settled (status.Grammar place line) = status.Grammar place 0
-settled (status.TooDeep place line) = status.Grammar place 0
+settled (status.Specification why) = status.Specification (settled_fault why)
 settled other = other
 
 -- two statuses are the same in what is settled

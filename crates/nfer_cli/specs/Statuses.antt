@@ -1,5 +1,7 @@
 -- The exit status of each answer.
 use Rattle.std.specs.Prelude.{ℕ}
+use Rattle.nf_spec.specs.declared.fault.SpecFault.{SpecFault}
+use Rattle.nf_spec.specs.declared.fault.SpecFault.TheVariants as fault
 use Rattle.nfer_cli.specs.declared.status.Status.{Status}
 use Rattle.nfer_cli.specs.declared.status.Status.TheVariants as status
 
@@ -7,13 +9,13 @@ use Rattle.nfer_cli.specs.declared.status.Status.TheVariants as status
 abbrev pub code_of : Status → ℕ
 code_of status.Done = 0
 code_of status.Usage = 1
-code_of status.SpecificationTooLong = 2
-code_of (status.Lexical place fault) = 2
-code_of (status.Grammar place line) = 2
-code_of (status.TooDeep place line) = 2
-code_of status.Unbuilt = 2
-code_of (status.Kinds number fault) = 2
-code_of (status.Trace fault) = 3
+code_of (status.Specification why) = 2
+code_of (status.Trace why) = 3
 code_of (status.ReadFault place) = 4
 code_of status.WriteFault = 5
 code_of status.NoMemory = 6
+
+-- the status of a refused specification; want of memory is none
+abbrev pub status_of_fault : SpecFault → Status
+status_of_fault fault.NoMemory = status.NoMemory
+status_of_fault why = status.Specification why

@@ -3,7 +3,7 @@
 ghost use Rattle.std.specs.Prelude.{◌≡◌, ◌≤◌, ◌++◌, codes, flat_map};
 ghost use Rattle.std.specs.Fmt.{signed_decimal};
 ghost use Rattle.nfer_cli.specs.Answers.{Reports};
-ghost use Rattle.nfer_cli.specs.Messages.{message, at_line, at_trace_line, trace_message, line_text, kind_text, fault_text, fault_line};
+ghost use Rattle.nfer_cli.specs.Messages.{message, specification_message, at_line, at_rule, at_trace_line, trace_message, line_text, kind_text, fault_text, fault_line};
 ghost use Rattle.nfer_cli.specs.Words.{file_word};
 
 use crate::status::Status;
@@ -12,6 +12,7 @@ use itoa::Buffer;
 use nf_io::{Failed, Sink, write_all};
 use nf_lex::LexFault;
 use nf_line::{LineFault, TraceFault};
+use nf_spec::SpecFault;
 use nf_typing::KindFault;
 
 /// Writes the message of a status, and nothing where all is done (`message` of specs/Messages).
@@ -21,34 +22,10 @@ pub fn report<E: Sink>(err: &mut E, words: &Words, status: &Status)
     ensures message { Reports (E.taken err.old) (E.taken err.new) (E.faults err.old) (E.faults err.new) (message words.now status.now) }
     ensures never_falls { E.faults err.old ≤ E.faults err.new }
 {
-    let mut number = Buffer::new();
     let _written = match status {
         Status::Done => Ok(()),
         Status::Usage => write_texts(err, &["nfer: usage\n"]),
-        Status::SpecificationTooLong => write_texts(err, &["nfer: specification too long\n"]),
-        Status::Lexical(place, fault) => write_at_line(
-            err,
-            words.file_word(*place),
-            fault_line(fault),
-            fault_text(fault),
-        ),
-        Status::Grammar(place, line) => {
-            write_at_line(err, words.file_word(*place), *line, "grammar")
-        }
-        Status::TooDeep(place, line) => {
-            write_at_line(err, words.file_word(*place), *line, "too deep")
-        }
-        Status::Unbuilt => write_texts(err, &["nfer: unbuilt\n"]),
-        Status::Kinds(rule, fault) => write_texts(
-            err,
-            &[
-                "nfer: rule ",
-                number.format(*rule),
-                ": ",
-                kind_text(fault),
-                "\n",
-            ],
-        ),
+        Status::Specification(fault) => write_specification_fault(err, words, fault),
         Status::Trace(fault) => write_trace_fault(err, fault),
         Status::ReadFault(place) => {
             write_texts(err, &["nfer: cannot read ", words.file_word(*place), "\n"])
@@ -56,6 +33,49 @@ pub fn report<E: Sink>(err: &mut E, words: &Words, status: &Status)
         Status::WriteFault => write_texts(err, &["nfer: cannot write\n"]),
         Status::NoMemory => write_texts(err, &["nfer: no memory\n"]),
     };
+}
+
+// Writes the message of a refused specification.
+#[tactic(auto, unfolding(crate::specs::Messages::specification_message))]
+fn write_specification_fault<E: Sink>(
+    err: &mut E,
+    words: &Words,
+    fault: &SpecFault,
+) -> Result<(), Failed>
+    ensures message { Reports (E.taken err.old) (E.taken err.new) (E.faults err.old) (E.faults err.new) (specification_message words.now fault.now) }
+    ensures never_falls { E.faults err.old ≤ E.faults err.new }
+{
+    match fault {
+        SpecFault::TooLong => write_texts(err, &["nfer: specification too long\n"]),
+        SpecFault::Lex(place, fault) => {
+            let file = words.file_word(*place as usize);
+            write_at_line(err, file, fault_line(fault), fault_text(fault))
+        }
+        SpecFault::Grammar(place, line) => {
+            write_at_line(err, words.file_word(*place as usize), *line, "grammar")
+        }
+        SpecFault::TooDeep(place, line) => {
+            write_at_line(err, words.file_word(*place as usize), *line, "too deep")
+        }
+        SpecFault::NoModule(name) => {
+            write_texts(err, &["nfer: no module ", name.as_str(), "\n"])
+        }
+        SpecFault::SameModule(name) => {
+            write_texts(err, &["nfer: module ", name.as_str(), " twice\n"])
+        }
+        SpecFault::Kinds(rule, fault) => write_at_rule(err, *rule, kind_text(fault)),
+        SpecFault::Cycle(head) => write_texts(err, &["nfer: cycle at ", head.as_str(), "\n"]),
+        SpecFault::NoMemory => write_texts(err, &["nfer: no memory\n"]),
+    }
+}
+
+// Writes a refusal of a rule, by its number.
+fn write_at_rule<E: Sink>(err: &mut E, rule: u32, what: &str) -> Result<(), Failed>
+    ensures rule { Reports (E.taken err.old) (E.taken err.new) (E.faults err.old) (E.faults err.new) (at_rule rule what.now) }
+    ensures never_falls { E.faults err.old ≤ E.faults err.new }
+{
+    let mut number = Buffer::new();
+    write_texts(err, &["nfer: rule ", number.format(rule), ": ", what, "\n"])
 }
 
 // Writes a refusal at a line of a file.

@@ -3,7 +3,7 @@
 ghost use Rattle.std.specs.Prelude.{◌≡◌, ◌≢◌, ◌+◌, ◌<◌, ◌≤◌, [], length, vec_len, List, ℕ, true, false, IsTrue, IfOk, IfSome, OnOk};
 ghost use Rattle.nf_io.specs.Causes.{Rose};
 ghost use Rattle.nf_io.specs.Files.{bytes_of, asked_of};
-ghost use Rattle.nfer_cli.specs.Answers.{StandsIn, StandsAtEnd, StandsShort};
+ghost use Rattle.nfer_cli.specs.Answers.{StandsPastIn, StandsAtEnd, StandsShort};
 ghost use Rattle.nfer_cli.specs.Reading.{HasRead, HasEnded, HasPassed, HasStopped, is_unreadable};
 ghost use Rattle.nfer_cli.specs.declared.reading.Unread.TheVariants.{NoMemory as no_memory, Unreadable as unreadable};
 
@@ -66,7 +66,7 @@ pub fn read_file<F: Shelf>(
     ensures fits { IfOk result (λ bytes. length bytes ≤ most) }
     ensures end { OnOk result (IfSome (F.files shelf.old) (λ files. StandsAtEnd files name.now (F.asked shelf.new) (F.rest shelf.new))) }
     ensures too_long { result ≡ Err Unread.TooLong → IfSome (F.files shelf.old) (λ files. most < length (bytes_of files name.now)) }
-    ensures stopped { result ≡ Err Unread.TooLong → IfSome (F.files shelf.old) (λ files. StandsIn files name.now (most + PIECE_LIMIT) (F.asked shelf.new) (F.rest shelf.new)) }
+    ensures stopped { result ≡ Err Unread.TooLong → IfSome (F.files shelf.old) (λ files. StandsPastIn files name.now most (F.asked shelf.new) (F.rest shelf.new)) }
     ensures unread { result ≡ Err Unread.Unreadable → IfSome (F.files shelf.old) (λ files. StandsShort files name.now most (F.asked shelf.new) (F.rest shelf.new)) }
     ensures cause { result ≡ Err Unread.Unreadable → Rose (F.faults shelf.old) (F.faults shelf.new) }
     ensures failed { F.failed shelf.new ≡ is_unreadable result }

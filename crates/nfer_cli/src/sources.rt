@@ -3,14 +3,17 @@
 ghost use Rattle.std.specs.Prelude.{◌≡◌, ◌+◌, ◌<◌, ◌≤◌, None, [], length, take, slice_index_or, IfOk, IfErr, IfSome, OnOk};
 ghost use Rattle.nf_io.specs.Causes.{Rose};
 ghost use Rattle.nf_io.specs.Files.{bytes_of, asked_of};
-ghost use Rattle.nfer_cli.specs.Answers.{StandsIn, StandsAtEnd, StandsPast, StandsAfter, StandsShort, allowed_at, CannotRead, IfReadFault, AsksWithin, piece_limit};
+ghost use Rattle.nfer_cli.specs.Answers.{StandsPastIn, StandsAtEnd, StandsPast, StandsAfter, StandsShort, allowed_at, CannotRead, IfReadFault, AsksWithin};
 ghost use Rattle.nfer_cli.specs.Results.{IsUnread, ends_unread};
-ghost use Rattle.nfer_cli.specs.Sources.{specification_limit, sources_of, passing};
+ghost use Rattle.nf_spec.specs.Sources.{specification_limit};
+ghost use Rattle.nf_spec.specs.declared.fault.SpecFault.TheVariants as fault;
+ghost use Rattle.nfer_cli.specs.Sources.{sources_of, passing};
 
 use crate::reading::{Unread, read_file};
 use crate::status::Status;
-use nf_core::{Lines, ListOf, Text};
+use nf_core::{Lines, Text};
 use nf_io::Shelf;
+use nf_spec::{SourceList, SpecFault};
 use std::alloc::Global;
 
 /// The most bytes of all files of a specification together.
@@ -27,7 +30,7 @@ pub fn read_sources<F: Shelf>(
     alloc: Global,
     shelf: &mut F,
     names: &[Text],
-) -> Result<ListOf<Lines>, Status>
+) -> Result<SourceList, Status>
     requires { 0 < length names.now }
     ensures files { F.files shelf.new ≡ F.files shelf.old }
     ensures never_falls { F.faults shelf.old ≤ F.faults shelf.new }
@@ -35,7 +38,7 @@ pub fn read_sources<F: Shelf>(
     ensures sources { IfOk result (λ sources. IfSome (F.files shelf.old) (λ files. sources ≡ sources_of files names.now)) }
     ensures fits { IfOk result (λ sources. passing specification_limit sources ≡ None) }
     ensures end { OnOk result (IfSome (F.files shelf.old) (λ files. StandsAfter names.now files (F.asked shelf.new) (F.rest shelf.new))) }
-    ensures too_long { result ≡ Err Status.SpecificationTooLong → IfSome (F.files shelf.old) (λ files. StandsPast names.now files (F.asked shelf.new) (F.rest shelf.new)) }
+    ensures too_long { result ≡ Err (Status.Specification fault.TooLong) → IfSome (F.files shelf.old) (λ files. StandsPast names.now files (F.asked shelf.new) (F.rest shelf.new)) }
     ensures read_fault { IfErr result (λ status. IfReadFault status (λ place. CannotRead names.now place (F.files shelf.old) (F.faults shelf.old) (F.faults shelf.new) (F.failed shelf.new) (F.asked shelf.new))) }
     ensures unread { IfErr result (λ status. IfReadFault status (λ place. IfSome (F.files shelf.old) (λ files. StandsShort files (slice_index_or names.now place []) (allowed_at names.now files place) (F.asked shelf.new) (F.rest shelf.new)))) }
     ensures before { IfErr result (λ status. IfReadFault status (λ place. IfSome (F.files shelf.old) (λ files. passing specification_limit (sources_of files (take place names.now)) ≡ None))) }
@@ -43,7 +46,7 @@ pub fn read_sources<F: Shelf>(
     ensures kinds { IfErr result IsUnread }
     ensures asks { IfSome (F.files shelf.old) (λ files. AsksWithin names.now files (F.asked shelf.old) (F.asked shelf.new)) }
 {
-    let mut sources = ListOf::new(alloc);
+    let mut sources = SourceList::new(alloc);
     let mut room = SPECIFICATION_LIMIT;
     'names: for place in 0..names.len() {
         let source = read_source(alloc, shelf, names, place, room)?;
@@ -67,8 +70,8 @@ fn read_source<F: Shelf>(
     ensures bytes { IfOk result (λ bytes. IfSome (F.files shelf.old) (λ files. bytes ≡ bytes_of files (slice_index_or names.now place []))) }
     ensures fits { IfOk result (λ bytes. length bytes ≤ room) }
     ensures end { OnOk result (IfSome (F.files shelf.old) (λ files. StandsAtEnd files (slice_index_or names.now place []) (F.asked shelf.new) (F.rest shelf.new))) }
-    ensures too_long { result ≡ Err Status.SpecificationTooLong → IfSome (F.files shelf.old) (λ files. room < length (bytes_of files (slice_index_or names.now place []))) }
-    ensures stopped { result ≡ Err Status.SpecificationTooLong → IfSome (F.files shelf.old) (λ files. StandsIn files (slice_index_or names.now place []) (room + piece_limit) (F.asked shelf.new) (F.rest shelf.new)) }
+    ensures too_long { result ≡ Err (Status.Specification fault.TooLong) → IfSome (F.files shelf.old) (λ files. room < length (bytes_of files (slice_index_or names.now place []))) }
+    ensures stopped { result ≡ Err (Status.Specification fault.TooLong) → IfSome (F.files shelf.old) (λ files. StandsPastIn files (slice_index_or names.now place []) room (F.asked shelf.new) (F.rest shelf.new)) }
     ensures read_fault { IfErr result (λ status. IfReadFault status (λ at. CannotRead names.now at (F.files shelf.old) (F.faults shelf.old) (F.faults shelf.new) (F.failed shelf.new) (F.asked shelf.new))) }
     ensures unread { IfErr result (λ status. IfReadFault status (λ at. IfSome (F.files shelf.old) (λ files. StandsShort files (slice_index_or names.now place []) room (F.asked shelf.new) (F.rest shelf.new)))) }
     ensures at { IfErr result (λ status. IfReadFault status (λ at. at ≡ place)) }
@@ -78,7 +81,7 @@ fn read_source<F: Shelf>(
 {
     match read_file(alloc, shelf, names[place].as_str(), room) {
         Ok(bytes) => Ok(bytes),
-        Err(Unread::TooLong) => Err(Status::SpecificationTooLong),
+        Err(Unread::TooLong) => Err(Status::Specification(SpecFault::TooLong)),
         Err(Unread::Unreadable) => Err(Status::ReadFault(place)),
         Err(Unread::NoMemory) => Err(Status::NoMemory),
     }

@@ -2,9 +2,10 @@
 
 ghost use Rattle.std.specs.Prelude.{◌≡◌, [], ◌∷◌, ◌++◌, option_map, slice_index_or, OnOk, OnErr};
 ghost use Rattle.std.specs.List.{list_all};
-ghost use Rattle.nfer_cli.specs.Words.{asked, file_word, are_file_words, is_file_word, trace_word};
+ghost use Rattle.nfer_cli.specs.Words.{asked, asked_of_check, asked_of_follow, options_of, file_word, are_file_words, is_file_word, trace_word};
 ghost use Rattle.nfer_cli.specs.Commands.{asked_by};
 
+use crate::options::take_options;
 use nf_core::{NoMemory, Text};
 use std::alloc::Global;
 use std::marker::Model;
@@ -23,11 +24,22 @@ impl Model for Words {
     ghost view = { λ w. w.words.items };
 }
 
-/// A command with the words that it is given (`asked_by` of specs/Commands).
+/// A command with what it is given (`asked_by` of specs/Commands.antt): the root among the modules, where
+/// one is named, and the words of the specification's files.
 #[derive(Debug, Clone, Copy)]
-pub enum Command<'a> {
-    /// Follows a trace under the specification in these files.
-    Follow(&'a [Text]),
+pub(crate) enum Command<'a> {
+    /// Prints the specification in these files.
+    Check {
+        root: Option<&'a str>,
+        files: &'a [Text],
+    },
+    /// Follows a trace under the specification in these files, with every candidate held where `full`
+    /// holds.
+    Follow {
+        full: bool,
+        root: Option<&'a str>,
+        files: &'a [Text],
+    },
 }
 
 impl Words {
@@ -51,29 +63,59 @@ impl Words {
     }
 
     /// The command that the words ask for. None exactly where they are in no form (`asked` of
-    /// specs/Words). Takes no memory.
+    /// specs/Words.antt). Takes no memory.
     #[tactic(auto, unfolding(crate::specs::Words::asked))]
-    pub fn command(&self) -> Option<Command<'_>>
+    pub(crate) fn command(&self) -> Option<Command<'_>>
         ensures { option_map asked_by result ≡ asked self.now }
     {
         match self.words.as_slice() {
-            [command, option, files @ ..]
-                if command.as_str() == "follow"
-                    && option.as_str() == "--full"
-                    && are_file_words(files) => { Some(Command::Follow(files)) }
+            [command, words @ ..] if command.as_str() == "check" => check_command(words),
+            [command, words @ ..] if command.as_str() == "follow" => follow_command(words),
             _ => None,
         }
     }
 }
 
+// What options and file words ask of `check`.
+#[tactic(auto, using(crate::proofs::TakenOptions::refused_check, crate::proofs::TakenOptions::asked_check))]
+fn check_command<'a>(words: &'a [Text]) -> Option<Command<'a>>
+    ensures { option_map asked_by result ≡ asked_of_check (options_of words.now) }
+{
+    let (options, files) = take_options(words)?;
+    if options.full || !are_file_words(files) {
+        return None;
+    }
+    Some(Command::Check {
+        root: options.root,
+        files,
+    })
+}
+
+// What options and file words ask of `follow`.
+#[tactic(auto, using(crate::proofs::TakenOptions::refused_follow, crate::proofs::TakenOptions::asked_follow))]
+fn follow_command<'a>(words: &'a [Text]) -> Option<Command<'a>>
+    ensures { option_map asked_by result ≡ asked_of_follow (options_of words.now) }
+{
+    let (options, files) = take_options(words)?;
+    if !options.full || !are_file_words(files) {
+        return None;
+    }
+    Some(Command::Follow {
+        full: true,
+        root: options.root,
+        files,
+    })
+}
+
 impl Words {
     /// The file word at a place, counted from 0 (`file_word` of specs/Words), and the empty text
     /// where there is none.
-    pub fn file_word(&self, place: usize) -> &str
+    pub(crate) fn file_word(&self, place: usize) -> &str
         ensures { result.now ≡ file_word self.now place }
     {
         match self.command() {
-            Some(Command::Follow(files)) => file_at(files, place),
+            Some(Command::Check { files, .. }) => word_at(files, place),
+            Some(Command::Follow { files, .. }) => file_at(files, place),
             None => "",
         }
     }
@@ -83,7 +125,17 @@ impl Words {
 const FILES_LIMIT: usize = 1 << 32;
 
 /// The word under which a command reads its trace: standard input.
-pub const TRACE_WORD: &str = "-";
+pub(crate) const TRACE_WORD: &str = "-";
+
+// The word at a place of some files, and the empty text past them.
+fn word_at(files: &[Text], place: usize) -> &str
+    ensures { result.now ≡ slice_index_or files.now place [] }
+{
+    match files.get(place) {
+        Some(file) => file.as_str(),
+        None => "",
+    }
+}
 
 // The word at a place of some files and the trace behind them, and the empty text past it.
 fn file_at(files: &[Text], place: usize) -> &str

@@ -3,9 +3,8 @@ use Rattle.std.proofs.lemmas.List.{length-take-le}
 use Rattle.nf_io.specs.Bytes.{Gives}
 use Rattle.nfer_cli.specs.Ended.{EndsTrace}
 use Rattle.nfer_cli.specs.declared.status.Status.TheVariants as status
-use Rattle.nfer_cli.proofs.TraceEnds.{limit_is, stands_first, stands_more, ends_unread, ends_in_piece, ends_finished, ends_at_limit, same_buffer}
+use Rattle.nfer_cli.proofs.TraceEnds.{limit_is, stands_first, stands_more, ends_unread, ends_in_piece, ends_finished, ends_at_limit, same_buffer, follow_is_read, end_is_read}
 use Rattle.nfer_cli.specs.Answers.{is_read_fault}
-use Rattle.nfer_cli.proofs.Whole.{follow_is_read, end_is_read}
 use Rattle.nfer_cli.proofs.following.follow.Goals as goal
 
 pub pieces-init : goal.pieces-init

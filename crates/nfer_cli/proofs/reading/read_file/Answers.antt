@@ -1,5 +1,5 @@
 use Rattle.std.proofs.Common.{rules}
-use Rattle.nfer_cli.proofs.FileBytes.{told_ended, told_passed, read_all, is_longer, stands_at_end, stands_in, stands_short, unpicked}
+use Rattle.nfer_cli.proofs.FileBytes.{told_ended, told_passed, read_all, is_longer, stands_at_end, stands_past, stands_short, unpicked}
 use Rattle.nfer_cli.proofs.reading.read_file.Goals as goal
 
 pub returns-in_err-read_rest-clause-too_long : goal.returns-in_err-read_rest-clause-too_long
@@ -8,7 +8,7 @@ returns-in_err-read_rest-clause-too_long g c = λ e.
 
 pub returns-in_err-read_rest-clause-stopped : goal.returns-in_err-read_rest-clause-stopped
 returns-in_err-read_rest-clause-stopped g c = λ e.
-    stands_in _ _ _ _ _ _ _ c.pick.ensures.asked c.read_rest.ensures.asked (told_passed _ _ _ _ _ _ c.in_ok-pick.ensures.rest (λ whole h. c.read_rest.ensures.too_long (search rules) whole (search rules)))
+    stands_past _ _ _ _ _ _ c.pick.ensures.asked c.read_rest.ensures.asked (told_passed _ _ _ _ _ _ c.in_ok-pick.ensures.rest (λ whole h. c.read_rest.ensures.too_long (search rules) whole (search rules)))
 
 pub returns-in_err-pick-clause-unread : goal.returns-in_err-pick-clause-unread
 returns-in_err-pick-clause-unread g c = λ e. unpicked _ _ _ _ _ c.in_err-pick.ensures.untold

@@ -1,9 +1,10 @@
 use Rattle.std.proofs.Common.{◌≡◌, ◌+◌, ◌≤◌, length, ap, ◌∙◌, subst, Option, IfSome, arith, length-append, [], ◌∷◌, ◌++◌, refl, rules}
 use Rattle.nf_io.specs.Files.{Files}
-use Rattle.nfer_cli.specs.Sources.{specification_limit, passing}
-use Rattle.nfer_cli.proofs.Passing.{total, total_more, passing_more}
+use Rattle.nf_spec.specs.Sources.{specification_limit, total}
+use Rattle.nfer_cli.specs.Sources.{passing}
+use Rattle.nfer_cli.proofs.Passing.{total_more, passing_more}
 use Rattle.nfer_cli.proofs.FilesRead.{nothing_passes, nothing_known, nothing_asked, known_more, asked_here, ends_before, past_here}
-use Rattle.nfer_cli.proofs.ReadTo.{short_here}
+use Rattle.nfer_cli.proofs.ShortRead.{short_here}
 use Rattle.nfer_cli.proofs.sources.read_sources.Goals as goal
 
 pub names-init : goal.names-init

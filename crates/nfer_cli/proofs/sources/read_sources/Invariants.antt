@@ -1,7 +1,8 @@
 use Rattle.std.proofs.Common.{◌≡◌, ◌+◌, ◌-◌, ◌<◌, ◌≤◌, [], length, take, map, false, None, IfSome}
 use Rattle.std.specs.Prelude.{sum, slice_index_or}
+use Rattle.nf_spec.specs.Sources.{specification_limit}
 use Rattle.nfer_cli.specs.Answers.{StandsAtEnd, AsksWithin}
-use Rattle.nfer_cli.specs.Sources.{specification_limit, sources_of, passing}
+use Rattle.nfer_cli.specs.Sources.{sources_of, passing}
 use Rattle.nfer_cli.proofs.sources.read_sources.Given as goal
 
 -- the files before the place were read whole, and are within the limit
