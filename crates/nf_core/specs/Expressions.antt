@@ -1,7 +1,7 @@
 -- The value of an expression over one or two members. Undefined is no value.
 use Rattle.std.specs.Prelude.{ℕ, zero, suc, ◌+◌, nat_lt, ℤ, pos, negsuc, ◌+ℤ◌, ◌-ℤ◌, ◌*ℤ◌, neg_ℤ, int_lt, int_le, int_div, int_rem, Bool, true, not, ◌&&◌, ◌||◌, Option, Some, None, option_and_then, option_to_list, List, [], ◌∷◌, ◌++◌, map, length, slice_index, slice_index_or, if◌then◌else◌}
 use Rattle.std.specs.Ordering.{int_eq, is_eq}
-use Rattle.nf_core.specs.Texts.{int_least, int_greatest}
+use Rattle.nf_core.specs.Texts.{int_least, is_i64}
 use Rattle.nf_core.specs.Values.{value_cmp}
 use Rattle.nf_core.specs.Intervals.{Interval}
 use Rattle.nf_core.specs.declared.values.Value as value
@@ -14,7 +14,7 @@ use Rattle.nf_core.specs.declared.terms.Term.TheFolds.{fold-Term}
 
 -- a whole number computed without bounds, and then tested for the range of values: Undefined outside it
 unfoldable pub in_range : ℤ → Option value.Value
-in_range n = if int_le int_least n && int_le n int_greatest then Some (variant.Int n) else None
+in_range n = if is_i64 n then Some (variant.Int n) else None
 
 -- an operation on two whole numbers; Undefined at any other kind
 unfoldable pub of_ints : (ℤ → ℤ → Option value.Value) → value.Value → value.Value → Option value.Value
@@ -138,3 +138,19 @@ texts_at_node (node.Bin op a b) = a ++ b
 -- the texts that stand in an expression
 unfoldable pub texts_of : term.Term → List (List ℕ)
 texts_of = fold-Term (List (List ℕ)) texts_at_node
+
+-- the whole numbers of a node, given those of its operands
+unfoldable pub numbers_at_node : node.Term-F (List ℤ) → List ℤ
+numbers_at_node (node.Bool b) = []
+numbers_at_node (node.Int n) = n ∷ []
+numbers_at_node (node.Text t) = []
+numbers_at_node (node.Start m) = []
+numbers_at_node (node.Stop m) = []
+numbers_at_node (node.Key m place) = []
+numbers_at_node (node.Neg a) = a
+numbers_at_node (node.Not a) = a
+numbers_at_node (node.Bin op a b) = a ++ b
+
+-- the whole numbers that stand in an expression
+unfoldable pub numbers_of : term.Term → List ℤ
+numbers_of = fold-Term (List ℤ) numbers_at_node

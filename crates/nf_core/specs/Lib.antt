@@ -6,10 +6,9 @@ pub mod Sets
 pub mod Relations
 pub mod Expressions
 pub mod Identifiers
+pub mod Spelling
 pub mod Trees
 pub mod Kinds
 pub mod Plan
 pub mod Written
-pub mod Example
-pub mod Collected
-pub mod Numbered
+pub mod inner

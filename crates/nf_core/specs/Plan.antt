@@ -2,10 +2,11 @@
 use Rattle.std.specs.Prelude.{◌≡◌, ℕ, suc, ◌<◌, ◌≤◌, ◌^◌, max, Bool, ◌==◌, List, [], ◌∷◌, ◌++◌, length, map, filter, fold, flat_map, slice_index_or, option_to_list, All, IsTrue}
 use Rattle.std.specs.List.{list_any, IsDistinct}
 use Rattle.std.specs.List.Sorted.{IsStrictlySortedBy}
-use Rattle.nf_core.specs.Texts.{text_cmp, text_eq, IsPlain}
+use Rattle.nf_core.specs.Texts.{text_cmp, text_eq, IsI64, IsPlain}
 use Rattle.nf_core.specs.Identifiers.{is_identifier}
-use Rattle.nf_core.specs.Expressions.{reads_within, operators_of, texts_of}
+use Rattle.nf_core.specs.Expressions.{reads_within, operators_of, numbers_of, texts_of}
 use Rattle.nf_core.specs.Kinds.{kind_of_term, is_condition, is_end_point, is_map_value}
+use Rattle.nf_core.specs.declared.limits.TheConstants.{MOST_OPERATORS}
 use Rattle.nf_core.specs.declared.terms.Term.{Term}
 use Rattle.nf_core.specs.declared.terms.Link.{Link}
 use Rattle.nf_core.specs.declared.terms.Link.TheVariants.{One, Pair, Unless}
@@ -67,10 +68,11 @@ greatest = fold max 0
 abbrev pub level_by_rules : Plan → ℕ → ℕ
 level_by_rules plan n = greatest (map (λ m. suc (level_of plan m)) (flat_map body_names (rules_of plan n)))
 
--- an expression over members of some names: it reads those members and places of their names' keys alone, it has at most 256 operators, and its texts are plain
+-- an expression over members of some names: it reads those members and places of their names' keys alone, it has at most 256 operators (`MOST_OPERATORS`), its whole numbers are ones that a value may be, and its texts are plain
 pub record IsTermOver (plan : Plan) (names : List ℕ) (term : Term) : Type 0 where
   pub reads : IsTrue (reads_within (widths_of_names plan names) term)
-  pub few : operators_of term ≤ 256
+  pub few : operators_of term ≤ MOST_OPERATORS
+  pub numbers : All IsI64 (numbers_of term)
   pub plain : All IsPlain (texts_of term)
 
 -- an entry of a rule's map: the place of a key of the head, and a value of a map over the result's members

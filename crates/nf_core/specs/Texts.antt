@@ -1,5 +1,5 @@
 -- Texts are lists of bytes, ordered by their bytes, and some of them are plain.
-use Rattle.std.specs.Prelude.{◌≢◌, ℕ, ℤ, ◌≤ℤ◌, pos, negsuc, Bool, List, codes, nat_eq, All}
+use Rattle.std.specs.Prelude.{◌≢◌, ℕ, ℤ, ◌≤ℤ◌, pos, negsuc, int_le, Bool, ◌&&◌, List, codes, nat_eq, All}
 use Rattle.std.specs.declared.cmp.Ordering.{Ordering}
 use Rattle.std.specs.Ordering.{nat_cmp}
 use Rattle.std.specs.Cmp.Lexicographic.{slice_cmp, pointwise}
@@ -21,7 +21,11 @@ int_least = negsuc 9223372036854775807
 abbrev pub int_greatest : ℤ
 int_greatest = pos 9223372036854775807
 
--- a number that a value may have
+-- whether a value may be this number
+abbrev pub is_i64 : ℤ → Bool
+is_i64 n = int_le int_least n && int_le n int_greatest
+
+-- a number that a value may be: from the least to the greatest
 pub record IsI64 (n : ℤ) : Type 0 where
   pub low : int_least ≤ℤ n
   pub high : n ≤ℤ int_greatest

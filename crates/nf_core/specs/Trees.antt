@@ -4,6 +4,7 @@ use Rattle.std.specs.Prelude.{ℕ, suc, ℤ, pos, ◌+◌, ◌≤◌, ◌≤ℤ�
 use Rattle.std.specs.Str.{is_utf8}
 use Rattle.nf_core.specs.Texts.{int_greatest, IsPlain}
 use Rattle.nf_core.specs.Identifiers.{is_identifier}
+use Rattle.nf_core.specs.declared.limits.TheConstants.{MOST_OPERATORS, MOST_OPEN}
 use Rattle.nf_core.specs.declared.operators.BinOp as operator
 use Rattle.nf_core.specs.declared.operators.BinOp.TheVariants as op
 use Rattle.nf_core.specs.declared.trees.Expr as expr
@@ -116,10 +117,10 @@ open_parens (Not a) = opened (operand_in_parens a) (open_parens a)
 open_parens (Bin op a b) = max (opened (left_in_parens op a) (open_parens a)) (opened (right_in_parens op b) (open_parens b))
 open_parens other = 0
 
--- the limits of an expression: at most 256 operators, and at most 64 parentheses open at once in its canonical text
+-- the limits of an expression: at most 256 operators (`MOST_OPERATORS`), and at most 64 parentheses (`MOST_OPEN`) open at once in its canonical text
 pub record IsWithinLimits (t : Tree) : Type 0 where
-  pub few_operators : operators t ≤ 256
-  pub few_parens : open_parens t ≤ 64
+  pub few_operators : operators t ≤ MOST_OPERATORS
+  pub few_parens : open_parens t ≤ MOST_OPEN
 
 -- a rule as it is written: its head, its body, and its clauses
 pub record Rule : Type 0 where
@@ -136,9 +137,13 @@ atoms_of (body.One first) = first ∷ []
 atoms_of (body.Pair first op second) = first ∷ second ∷ []
 atoms_of (body.Unless first xop second) = first ∷ second ∷ []
 
+-- the values of a map's entries
+abbrev pub values_of : List Entry → List expr.Expr
+values_of entries = map (λ (entry : Entry). entry.value) entries
+
 -- the expressions of a rule's clauses
 abbrev pub expressions_of : Rule → List expr.Expr
-expressions_of rule = option_to_list rule.filter ++ map (λ (entry : Entry). entry.value) rule.entries ++ option_to_list rule.start ++ option_to_list rule.stop
+expressions_of rule = option_to_list rule.filter ++ values_of rule.entries ++ option_to_list rule.start ++ option_to_list rule.stop
 
 -- every expression of a rule is within the limits
 abbrev pub IsRule : Rule → Type 0

@@ -1,10 +1,10 @@
 -- What a plan takes from written rules: names, keys of a name, terms and levels.
-use Rattle.std.specs.Prelude.{◌≡◌, ℕ, suc, ◌<◌, ◌^◌, List, [], ◌∷◌, ◌++◌, length, map, filter, fold, flat_map, option_map, unwrap_or, Option, Some, bytes_eq, All, IsTrue, if◌then◌else◌}
+use Rattle.std.specs.Prelude.{◌≡◌, ℕ, suc, ℤ, ◌<◌, ◌^◌, List, [], ◌∷◌, ◌++◌, length, map, filter, fold, flat_map, option_map, unwrap_or, Option, Some, bytes_eq, All, IsTrue, if◌then◌else◌}
 use Rattle.std.specs.List.{position_or_len}
 use Rattle.std.specs.Map.{lookup}
 use Rattle.indexmap.specs.IndexSet as distinct
 use Rattle.std.specs.BTreeSet as sorted
-use Rattle.nf_core.specs.Texts.{text_cmp, text_eq, IsPlain}
+use Rattle.nf_core.specs.Texts.{text_cmp, text_eq, IsI64, IsPlain}
 use Rattle.nf_core.specs.Identifiers.{is_identifier}
 use Rattle.nf_core.specs.Plan.{Plan, greatest}
 use Rattle.nf_core.specs.Trees as tree
@@ -22,6 +22,7 @@ use Rattle.nf_core.specs.declared.terms.Term as term
 use Rattle.nf_core.specs.declared.terms.Term.TheVariants as of_term
 use Rattle.nf_core.specs.declared.terms.Link.{Link}
 use Rattle.nf_core.specs.declared.terms.Link.TheVariants as link
+use Rattle.nf_core.specs.declared.terms.PlanEntry.{PlanEntry}
 use Rattle.nf_core.specs.declared.terms.PlanRule.{PlanRule}
 
 -- texts, each once, in the order in which they first appear
@@ -32,9 +33,13 @@ each_once texts = fold (λ all text. distinct.insert_key text_eq all text) [] te
 abbrev pub ascending : List (List ℕ) → List (List ℕ)
 ascending texts = fold (λ all text. sorted.insert_key text_cmp all text) [] texts
 
+-- the names of a body's atoms in reading order
+abbrev pub names_read : Body → List (List ℕ)
+names_read body = map (λ (atom : Atom). atom.name) (atoms_of body)
+
 -- the names of a rule: its head, and then those of its body
 abbrev pub names_in : Rule → List (List ℕ)
-names_in rule = rule.head ∷ map (λ (atom : Atom). atom.name) (atoms_of rule.body)
+names_in rule = rule.head ∷ names_read rule.body
 
 -- names are numbered by first appearance in the rules, each head before its body
 abbrev pub names_of : List Rule → List (List ℕ)
@@ -52,45 +57,83 @@ keys_at_node label other = []
 unfoldable pub keys_read : List ℕ → expr.Expr → List (List ℕ)
 keys_read label = fold-Expr (List (List ℕ)) (keys_at_node label)
 
+-- the keys that some expressions read under a label
+abbrev pub keys_read_of : List ℕ → List expr.Expr → List (List ℕ)
+keys_read_of label xs = flat_map (keys_read label) xs
+
+-- the keys of a map's entries
+abbrev pub keys_mapped : List Entry → List (List ℕ)
+keys_mapped entries = map (λ (entry : Entry). entry.key) entries
+
 -- the keys that a rule reads from an atom of a name
 abbrev pub keys_read_in : List ℕ → Rule → Atom → List (List ℕ)
-keys_read_in name rule atom = if bytes_eq atom.name name then flat_map (keys_read atom.label) (expressions_of rule) else []
+keys_read_in name rule atom = if bytes_eq atom.name name then keys_read_of atom.label (expressions_of rule) else []
 
 -- the keys that a rule maps into a head
 abbrev pub keys_mapped_in : List ℕ → Rule → List (List ℕ)
-keys_mapped_in name rule = if bytes_eq rule.head name then map (λ (entry : Entry). entry.key) rule.entries else []
+keys_mapped_in name rule = if bytes_eq rule.head name then keys_mapped rule.entries else []
 
--- the keys of a name: those that some rule reads from an atom of the name or maps into it as a head, ascending, each once
+-- the keys that a rule reads from the atoms of a name
+abbrev pub keys_read_by : Rule → List ℕ → List (List ℕ)
+keys_read_by rule name = flat_map (keys_read_in name rule) (atoms_of rule.body)
+
+-- the keys of a name that a rule reads from an atom of the name or maps into it as a head
+abbrev pub keys_by_rule : Rule → List ℕ → List (List ℕ)
+keys_by_rule rule name = keys_read_by rule name ++ keys_mapped_in name rule
+
+-- the keys of a name: those that some rule reads or maps, ascending, each once
 abbrev pub keys_of_name : List Rule → List ℕ → List (List ℕ)
-keys_of_name rules name = ascending (flat_map (λ rule. flat_map (keys_read_in name rule) (atoms_of rule.body) ++ keys_mapped_in name rule) rules)
+keys_of_name rules name = ascending (flat_map (λ rule. keys_by_rule rule name) rules)
 
 -- the place of a text in a list
 abbrev pub place_of : List (List ℕ) → List ℕ → ℕ
 place_of texts text = position_or_len (bytes_eq text) texts
 
--- member 0 is the first atom's and member 1 the second's
-abbrev pub member_of : Body → List ℕ → ℕ
-member_of body label = place_of (map (λ (atom : Atom). atom.label) (atoms_of body)) label
+-- a member as the expressions of a rule read it: its label, and the keys of its name by place
+pub record Member : Type 0 where
+  pub label : List ℕ
+  pub keys : List (List ℕ)
 
--- the place of a key among the keys of the name of the atom with a label
-abbrev pub key_place : List Rule → Body → List ℕ → List ℕ → ℕ
-key_place rules body label key = place_of (flat_map (λ (atom : Atom). if bytes_eq atom.label label then keys_of_name rules atom.name else []) (atoms_of body)) key
+-- the member of an atom, given the keys of names
+abbrev pub member_by : (List ℕ → List (List ℕ)) → Atom → Member
+member_by keys atom = record { label = atom.label; keys = keys atom.name }
 
--- a node as a term, given the terms of its operands
-unfoldable pub term_at_node : List Rule → Body → node.Expr-F term.Term → term.Term
-term_at_node rules body (node.Bool b) = of_term.Bool b
-term_at_node rules body (node.Int n) = of_term.Int n
-term_at_node rules body (node.Text t) = of_term.Text t
-term_at_node rules body (node.Start label) = of_term.Start (member_of body label)
-term_at_node rules body (node.Stop label) = of_term.Stop (member_of body label)
-term_at_node rules body (node.Key label key) = of_term.Key (member_of body label) (key_place rules body label key)
-term_at_node rules body (node.Neg a) = of_term.Neg a
-term_at_node rules body (node.Not a) = of_term.Not a
-term_at_node rules body (node.Bin op a b) = of_term.Bin op a b
+-- the members of a body, given the keys of names: number 0 is the first atom's, and number 1 the second's
+abbrev pub members_by : (List ℕ → List (List ℕ)) → Body → List Member
+members_by keys body = map (member_by keys) (atoms_of body)
 
--- an expression of a rule as a term: reads go by member and by place
-unfoldable pub term_of : List Rule → Body → expr.Expr → term.Term
-term_of rules body = fold-Expr term.Term (term_at_node rules body)
+-- the members of the body of one of some rules
+abbrev pub members_of : List Rule → Body → List Member
+members_of rules body = members_by (keys_of_name rules) body
+
+-- the number of the member with a label; where none has it, how many members there are
+abbrev pub number_under : List Member → List ℕ → ℕ
+number_under members label = place_of (map (λ (m : Member). m.label) members) label
+
+-- the keys of the first member with a label
+abbrev pub keys_under : List Member → List ℕ → List (List ℕ)
+keys_under [] label = []
+keys_under (m ∷ members) label = if bytes_eq label m.label then m.keys else keys_under members label
+
+-- a node as a term over members, given the terms of its operands: labels go by number, and keys by place
+unfoldable pub term_at_node : List Member → node.Expr-F term.Term → term.Term
+term_at_node members (node.Bool b) = of_term.Bool b
+term_at_node members (node.Int n) = of_term.Int n
+term_at_node members (node.Text t) = of_term.Text t
+term_at_node members (node.Start label) = of_term.Start (number_under members label)
+term_at_node members (node.Stop label) = of_term.Stop (number_under members label)
+term_at_node members (node.Key label key) = of_term.Key (number_under members label) (place_of (keys_under members label) key)
+term_at_node members (node.Neg a) = of_term.Neg a
+term_at_node members (node.Not a) = of_term.Not a
+term_at_node members (node.Bin op a b) = of_term.Bin op a b
+
+-- an expression as a term over members
+unfoldable pub term_of : List Member → expr.Expr → term.Term
+term_of members = fold-Expr term.Term (term_at_node members)
+
+-- an entry of a map, given the keys of its head and the members that its value reads
+abbrev pub entry_of : List (List ℕ) → List Member → Entry → PlanEntry
+entry_of keys members entry = record { place = place_of keys entry.key; value = term_of members entry.value }
 
 -- the first name's number
 abbrev pub first_of : List Rule → Body → ℕ
@@ -111,10 +154,10 @@ plan_rule rules rule = record {
   keys = length (keys_of_name rules rule.head);
   first = first_of rules rule.body;
   link = link_of rules rule.body;
-  filter = option_map (term_of rules rule.body) rule.filter;
-  entries = map (λ (entry : Entry). record { place = place_of (keys_of_name rules rule.head) entry.key; value = term_of rules rule.body entry.value }) rule.entries;
-  start = option_map (term_of rules rule.body) rule.start;
-  stop = option_map (term_of rules rule.body) rule.stop;
+  filter = option_map (term_of (members_of rules rule.body)) rule.filter;
+  entries = map (entry_of (keys_of_name rules rule.head) (members_of rules rule.body)) rule.entries;
+  start = option_map (term_of (members_of rules rule.body)) rule.start;
+  stop = option_map (term_of (members_of rules rule.body)) rule.stop;
 }
 
 -- levels as contracts see them: pairs of a name and its level
@@ -125,23 +168,27 @@ Levels = List (List ℕ × ℕ)
 abbrev pub level_of_name : Levels → List ℕ → Option ℕ
 level_of_name levels name = lookup (bytes_eq name) levels
 
+-- the level of a name, and 0 where it has none
+abbrev pub level_or_zero : Levels → List ℕ → ℕ
+level_or_zero levels name = unwrap_or (level_of_name levels name) 0
+
 -- the plan of some rules with their levels
 abbrev pub plan_of : List Rule → Levels → Plan
 plan_of rules levels = record {
   names = names_of rules;
   keys = map (keys_of_name rules) (names_of rules);
   rules = map (plan_rule rules) rules;
-  levels = map (λ name. unwrap_or (level_of_name levels name) 0) (names_of rules);
+  levels = map (level_or_zero levels) (names_of rules);
 }
 
 -- the names in the bodies of a name's rules
 abbrev pub names_below : List Rule → List ℕ → List (List ℕ)
-names_below rules name = flat_map (λ (rule : Rule). map (λ (atom : Atom). atom.name) (atoms_of rule.body)) (filter (λ (rule : Rule). bytes_eq rule.head name) rules)
+names_below rules name = flat_map (λ (rule : Rule). names_read rule.body) (filter (λ (rule : Rule). bytes_eq rule.head name) rules)
 
 -- 0 where a name has no rules, else one more than the greatest level of a name in their bodies
 abbrev pub IsLevelOf : List Rule → Levels → List ℕ → Type 0
 IsLevelOf rules levels name =
-    level_of_name levels name ≡ Some (greatest (map (λ below. suc (unwrap_or (level_of_name levels below) 0)) (names_below rules name)))
+    level_of_name levels name ≡ Some (greatest (map (λ below. suc (level_or_zero levels below)) (names_below rules name)))
 
 -- every name of the rules has its level
 abbrev pub AreLevels : List Rule → Levels → Type 0
@@ -155,11 +202,23 @@ texts_in (tree.Not a) = texts_in a
 texts_in (tree.Bin op a b) = texts_in a ++ texts_in b
 texts_in other = []
 
+-- the whole numbers that stand in an expression
+unfoldable pub numbers_in : Tree → List ℤ
+numbers_in (tree.Int n) = n ∷ []
+numbers_in (tree.Neg a) = numbers_in a
+numbers_in (tree.Not a) = numbers_in a
+numbers_in (tree.Bin op a b) = numbers_in a ++ numbers_in b
+numbers_in other = []
+
 -- every text in the expressions of a rule is plain
 abbrev pub HasPlainTexts : Rule → Type 0
 HasPlainTexts rule = All (λ x. All IsPlain (texts_in (tree.tree x))) (expressions_of rule)
 
--- rules of which a plan can be made: few enough, with identifiers for names and keys, with right kinds, and with plain texts
+-- every whole number in the expressions of a rule is one that a value may be
+abbrev pub HasValueNumbers : Rule → Type 0
+HasValueNumbers rule = All (λ x. All IsI64 (numbers_in (tree.tree x))) (expressions_of rule)
+
+-- rules of which a plan can be made: few enough, with identifiers for names and keys, with right kinds, with whole numbers that a value may be, and with plain texts
 pub record CanBePlanned (rules : List Rule) : Type 0 where
   pub few_rules : length rules < 2 ^ 32
   pub few_names : length (names_of rules) < 2 ^ 32
@@ -167,4 +226,5 @@ pub record CanBePlanned (rules : List Rule) : Type 0 where
   pub names : All (λ name. IsTrue (is_identifier name)) (names_of rules)
   pub keys : All (λ name. All (λ key. IsTrue (is_identifier key)) (keys_of_name rules name)) (names_of rules)
   pub kinds : All AreKindsRight rules
+  pub numbers : All HasValueNumbers rules
   pub plain : All HasPlainTexts rules

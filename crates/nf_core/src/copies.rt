@@ -7,7 +7,7 @@ use std::alloc::Global;
 
 /// A value that can be copied, where memory allows it.
 pub trait TryCopy: Sized {
-    /// An equal value.
+    /// An equal value. It takes memory for what it holds.
     fn copy(&self, alloc: Global) -> Result<Self, NoMemory>
         ensures { IfOk result (λ copy. copy ≡ self.now) };
 }

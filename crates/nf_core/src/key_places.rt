@@ -1,17 +1,16 @@
 //! The keys of names, by number: what rules read under a name's labels, and what they map into it.
 
-ghost use Rattle.std.specs.Prelude.{◌≡◌, ◌^◌, ◌<◌, ℕ, List, [], length, map, fold, flat_map, option_to_list, bytes_eq, All, Contains, IfOk, OnOk, if◌then◌else◌};
+ghost use Rattle.std.specs.Prelude.{◌≡◌, ◌^◌, ◌<◌, [], ◌∷◌, length, map, option_to_list, bytes_eq, All, Contains, IfOk, OnOk, if◌then◌else◌};
 ghost use Rattle.std.specs.List.{IsDistinct};
-ghost use Rattle.std.specs.BTreeSet.{insert_key};
 ghost use Rattle.std.proofs.Common.{replicate};
-ghost use Rattle.nf_core.specs.Texts.{text_cmp, text_eq};
-ghost use Rattle.nf_core.specs.Trees.{atoms_of, expressions_of};
-ghost use Rattle.nf_core.specs.Collected.{AreGiven, keys_read_by, keys_in};
-ghost use Rattle.nf_core.specs.Written.{names_in, names_of, keys_of_name, keys_read, keys_read_in, keys_mapped_in};
-ghost use Rattle.nf_core.specs.declared.trees.Entry.{Entry};
+ghost use Rattle.nf_core.specs.Texts.{text_eq};
+ghost use Rattle.nf_core.specs.Trees.{expressions_of, values_of};
+ghost use Rattle.nf_core.specs.inner.Collected.{AreGiven, put_in};
+ghost use Rattle.nf_core.specs.Written.{names_in, names_of, keys_of_name, keys_read, keys_read_of, keys_read_in, keys_mapped, keys_mapped_in, keys_read_by, keys_by_rule};
 
 use crate::errors::NoMemory;
 use crate::lists::ListOf;
+use crate::names::Names;
 use crate::numbering::number_of;
 use crate::sorted_texts::SortedTexts;
 use crate::text_sets::TextSet;
@@ -24,7 +23,7 @@ use std::alloc::Global;
 /// walked once.
 pub fn keys_by_number(
     alloc: Global,
-    names: &TextSet,
+    names: &Names,
     rules: &RuleList,
 ) -> Result<ListOf<TextSet>, NoMemory>
     requires named { names.now ≡ names_of rules.now }
@@ -63,7 +62,7 @@ fn by_place(alloc: Global, keys: Vec<SortedTexts>) -> Result<ListOf<TextSet>, No
 /// Gives each name the keys that a rule reads from its atoms, and the head those that it maps.
 fn add_keys(
     alloc: Global,
-    names: &TextSet,
+    names: &Names,
     rule: &Rule,
     keys: &mut [SortedTexts],
 ) -> Result<(), NoMemory>
@@ -71,7 +70,7 @@ fn add_keys(
     requires distinct { IsDistinct text_eq names.now }
     requires each { length keys.old ≡ length names.now }
     requires known { All (Contains names.now) (names_in rule.now) }
-    ensures { OnOk result (AreGiven names.now (keys_in rule.now) keys.old keys.new) }
+    ensures { OnOk result (AreGiven names.now (keys_by_rule rule.now) keys.old keys.new) }
 {
     add_read_keys(alloc, names, rule, keys)?;
     add_mapped_keys(alloc, names, rule, keys)
@@ -80,7 +79,7 @@ fn add_keys(
 /// Gives each name the keys that a rule reads from its atoms.
 fn add_read_keys(
     alloc: Global,
-    names: &TextSet,
+    names: &Names,
     rule: &Rule,
     keys: &mut [SortedTexts],
 ) -> Result<(), NoMemory>
@@ -92,11 +91,7 @@ fn add_read_keys(
 {
     match &rule.body {
         Body::One(first) => add_atom(alloc, names, rule, first, keys),
-        Body::Pair(first, _, second) => {
-            add_atom(alloc, names, rule, first, keys)?;
-            add_atom(alloc, names, rule, second, keys)
-        }
-        Body::Unless(first, _, second) => {
+        Body::Pair(first, _, second) | Body::Unless(first, _, second) => {
             add_atom(alloc, names, rule, first, keys)?;
             add_atom(alloc, names, rule, second, keys)
         }
@@ -106,7 +101,7 @@ fn add_read_keys(
 /// Gives the name of an atom the keys that a rule reads from this atom.
 fn add_atom(
     alloc: Global,
-    names: &TextSet,
+    names: &Names,
     rule: &Rule,
     atom: &Atom,
     keys: &mut [SortedTexts],
@@ -115,7 +110,8 @@ fn add_atom(
     requires distinct { IsDistinct text_eq names.now }
     requires each { length keys.old ≡ length names.now }
     requires known { Contains names.now atom.now.name }
-    ensures { OnOk result (AreGiven names.now (λ name. keys_read_in name rule.now atom.now) keys.old keys.new) }
+    ensures { OnOk result
+        (AreGiven names.now (λ name. keys_read_in name rule.now atom.now) keys.old keys.new) }
 {
     let number = number_of(names, &atom.name) as usize;
     add_reads(alloc, &atom.label, rule, &mut keys[number])
@@ -124,7 +120,7 @@ fn add_atom(
 /// Gives the head of a rule the keys that the rule maps.
 fn add_mapped_keys(
     alloc: Global,
-    names: &TextSet,
+    names: &Names,
     rule: &Rule,
     keys: &mut [SortedTexts],
 ) -> Result<(), NoMemory>
@@ -132,16 +128,17 @@ fn add_mapped_keys(
     requires distinct { IsDistinct text_eq names.now }
     requires each { length keys.old ≡ length names.now }
     requires known { Contains names.now rule.now.head }
-    ensures { OnOk result (AreGiven names.now (λ name. keys_mapped_in name rule.now) keys.old keys.new) }
+    ensures { OnOk result
+        (AreGiven names.now (λ name. keys_mapped_in name rule.now) keys.old keys.new) }
 {
     let number = number_of(names, &rule.head) as usize;
     add_mapped(alloc, &rule.entries, &mut keys[number])
 }
 
 /// Puts the keys of a map in.
-#[tactic(auto, using(crate::proofs::Collected::fold_map_more))]
+#[tactic(auto, using(crate::proofs::CollectedKeyLemmas::fold_map_more))]
 fn add_mapped(alloc: Global, entries: &EntryList, keys: &mut SortedTexts) -> Result<(), NoMemory>
-    ensures { OnOk result (keys.new ≡ fold (insert_key text_cmp) keys.old (map (λ (entry : Entry). entry.key) entries.now)) }
+    ensures { OnOk result (keys.new ≡ put_in keys.old (keys_mapped entries.now)) }
 {
     for entry in entries.as_slice() {
         keys.add(alloc, &entry.key)?;
@@ -150,14 +147,15 @@ fn add_mapped(alloc: Global, entries: &EntryList, keys: &mut SortedTexts) -> Res
 }
 
 /// Puts the keys that the expressions of a rule read under a label in.
-#[tactic(auto, using(crate::proofs::Collected::fold_expressions_of))]
+#[tactic(auto, using(crate::proofs::CollectedKeyLemmas::fold_expressions_of))]
 fn add_reads(
     alloc: Global,
     label: &Text,
     rule: &Rule,
     keys: &mut SortedTexts,
 ) -> Result<(), NoMemory>
-    ensures { OnOk result (keys.new ≡ fold (insert_key text_cmp) keys.old (flat_map (keys_read label.now) (expressions_of rule.now))) }
+    ensures { OnOk result
+        (keys.new ≡ put_in keys.old (keys_read_of label.now (expressions_of rule.now))) }
 {
     add_reads_of_clause(alloc, label, &rule.filter, keys)?;
     add_reads_of_map(alloc, label, &rule.entries, keys)?;
@@ -166,14 +164,15 @@ fn add_reads(
 }
 
 /// Puts the keys that the values of a map read under a label in.
-#[tactic(auto, using(crate::proofs::Collected::fold_flat_map_more))]
+#[tactic(auto, using(crate::proofs::CollectedKeyLemmas::fold_flat_map_more))]
 fn add_reads_of_map(
     alloc: Global,
     label: &Text,
     entries: &EntryList,
     keys: &mut SortedTexts,
 ) -> Result<(), NoMemory>
-    ensures { OnOk result (keys.new ≡ fold (insert_key text_cmp) keys.old (flat_map (keys_read label.now) (map (λ (entry : Entry). entry.value) entries.now))) }
+    ensures { OnOk result
+        (keys.new ≡ put_in keys.old (keys_read_of label.now (values_of entries.now))) }
 {
     for entry in entries.as_slice() {
         add_reads_of(alloc, label, &entry.value, keys)?;
@@ -188,7 +187,8 @@ fn add_reads_of_clause(
     expr: &Option<Expr>,
     keys: &mut SortedTexts,
 ) -> Result<(), NoMemory>
-    ensures { OnOk result (keys.new ≡ fold (insert_key text_cmp) keys.old (flat_map (keys_read label.now) (option_to_list expr.now))) }
+    ensures { OnOk result
+        (keys.new ≡ put_in keys.old (keys_read_of label.now (option_to_list expr.now))) }
 {
     match expr {
         Some(expr) => add_reads_of(alloc, label, expr, keys),
@@ -206,7 +206,7 @@ fn add_reads_of(
     expr: &Expr,
     keys: &mut SortedTexts,
 ) -> Result<(), NoMemory>
-    ensures { OnOk result (keys.new ≡ fold (insert_key text_cmp) keys.old (keys_read label.now expr.now)) }
+    ensures { OnOk result (keys.new ≡ put_in keys.old (keys_read label.now expr.now)) }
 {
     match expr {
         Expr::Key(read, key) => add_read(alloc, label, read, key, keys),
@@ -228,7 +228,8 @@ fn add_read(
     key: &Text,
     keys: &mut SortedTexts,
 ) -> Result<(), NoMemory>
-    ensures { OnOk result (keys.new ≡ (if bytes_eq read.now label.now then insert_key text_cmp keys.old key.now else keys.old)) }
+    ensures { OnOk result
+        (keys.new ≡ put_in keys.old (if bytes_eq read.now label.now then key.now ∷ [] else [])) }
 {
     if read == label {
         return keys.add(alloc, key);

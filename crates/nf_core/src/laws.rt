@@ -9,14 +9,14 @@ ghost use Rattle.nf_core.specs.declared.trees.Expr.TheVariants as variant;
 
 /// Expressions and their trees are the same: an expression is that of its tree, and a tree that of its
 /// expression.
-#[tactic(auto, using(crate::proofs::Back::expr_of_tree, crate::proofs::Back::tree_of_expr))]
+#[tactic(auto, using(crate::proofs::Public::TreeLemmas::expr_of_tree, crate::proofs::Public::TreeLemmas::tree_of_expr))]
 pub fn trees_are_expressions()
     ensures expression { (x : Expr) → expr_of (tree x) ≡ x }
     ensures tree { (a : Tree) → tree (expr_of a) ≡ a }
 {}
 
 /// The tree of an expression, by its parts.
-#[tactic(auto, using(crate::proofs::Back::tree_Bool, crate::proofs::Back::tree_Int, crate::proofs::Back::tree_Text, crate::proofs::Back::tree_Start, crate::proofs::Back::tree_Stop, crate::proofs::Back::tree_Key, crate::proofs::Back::tree_Neg, crate::proofs::Back::tree_Not, crate::proofs::Back::tree_Bin))]
+#[tactic(auto, using(crate::proofs::Public::TreeLemmas::tree_Bool, crate::proofs::Public::TreeLemmas::tree_Int, crate::proofs::Public::TreeLemmas::tree_Text, crate::proofs::Public::TreeLemmas::tree_Start, crate::proofs::Public::TreeLemmas::tree_Stop, crate::proofs::Public::TreeLemmas::tree_Key, crate::proofs::Public::TreeLemmas::tree_Neg, crate::proofs::Public::TreeLemmas::tree_Not, crate::proofs::Public::TreeLemmas::tree_Bin))]
 pub fn trees_by_parts()
     ensures truth { (b : Bool) → tree (variant.Bool b) ≡ trees.Bool b }
     ensures number { (n : ℤ) → tree (variant.Int n) ≡ trees.Int n }
@@ -26,5 +26,6 @@ pub fn trees_by_parts()
     ensures key { (label key : List ℕ) → tree (variant.Key label key) ≡ trees.Key label key }
     ensures minus { (x : Expr) → tree (variant.Neg x) ≡ trees.Neg (tree x) }
     ensures inverted { (x : Expr) → tree (variant.Not x) ≡ trees.Not (tree x) }
-    ensures binary { (op : BinOp) (x y : Expr) → tree (variant.Bin op x y) ≡ trees.Bin op (tree x) (tree y) }
+    ensures binary { (op : BinOp) (x y : Expr)
+        → tree (variant.Bin op x y) ≡ trees.Bin op (tree x) (tree y) }
 {}

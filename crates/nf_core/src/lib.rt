@@ -1,4 +1,14 @@
-//! The types that all crates of nfer share.
+//! The types that all crates of nfer share, and the plan.
+//!
+//! Texts, values, rows, intervals and their sets; the trees of a specification; and the `Plan` that
+//! evaluators work from, which `Plan::build` makes of rules and their levels: it is `plan_of` of
+//! specs/Written.antt, and `IsPlan` of specs/Plan.antt is true of every plan. The other files of specs/
+//! define orders, relations, expressions, kinds, identifiers and the spelling of operators, and no code
+//! here stands for them: the crates above meet them.
+//!
+//! Of the files, `names` numbers the names of rules, `key_places` collects the keys of each name,
+//! `numbered_terms` and `numbered_rules` make terms and rules over these numbers, and `plans` puts them
+//! together. No crate of the project stands below but lemmas; every other one stands above.
 #![tactic(auto)]
 
 mod copies;
@@ -6,8 +16,10 @@ mod errors;
 mod intervals;
 mod key_places;
 mod laws;
+mod limits;
 mod lines;
 mod lists;
+mod names;
 mod numbered_rules;
 mod numbered_terms;
 mod numbering;
@@ -19,8 +31,6 @@ mod sets;
 mod sorted_texts;
 mod steps;
 mod terms;
-#[cfg(test)]
-mod tests;
 mod text_sets;
 mod texts;
 mod trees;
@@ -30,8 +40,10 @@ pub use copies::TryCopy;
 pub use errors::NoMemory;
 pub use intervals::{Change, Delta, Interval, IntervalList, Named, NamedList};
 pub use laws::{trees_are_expressions, trees_by_parts};
+pub use limits::{MOST_OPEN, MOST_OPERATORS};
 pub use lines::Lines;
 pub use lists::ListOf;
+pub use names::Names;
 pub use operators::{BinOp, Op, Xop};
 pub use plan_levels::Levels;
 pub use plans::Plan;

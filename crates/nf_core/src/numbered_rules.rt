@@ -1,17 +1,13 @@
 //! Rules over the numbers of their names, with terms for their expressions.
 
-ghost use Rattle.std.specs.Prelude.{◌≡◌, ◌<◌, ◌^◌, List, [], ◌∷◌, length, map, option_map, slice_index_or, All, Contains, IfOk, OnOk};
-ghost use Rattle.std.specs.List.{IsDistinct};
-ghost use Rattle.nf_core.specs.Kinds.{labels_of};
-ghost use Rattle.nf_core.specs.Numbered.{HasFewKeys, member_seen, members_seen, member_by, members_by, numbered};
-ghost use Rattle.nf_core.specs.Texts.{text_eq};
-ghost use Rattle.nf_core.specs.Trees.{Rule as RuleOf, IsRule, atoms_of};
-ghost use Rattle.nf_core.specs.Written.{names_in, names_of, keys_of_name, place_of, first_of, link_of, plan_rule};
-ghost use Rattle.nf_core.specs.declared.trees.Atom.{Atom as AtomOf};
-ghost use Rattle.nf_core.specs.declared.trees.Entry.{Entry as EntryOf};
+ghost use Rattle.std.specs.Prelude.{◌≡◌, ◌<◌, ◌^◌, List, length, map, option_map, All, Contains, IfOk, OnOk};
+ghost use Rattle.nf_core.specs.inner.Numbered.{HasFewKeys, IsNumbered, keys_at, member_seen, members_seen};
+ghost use Rattle.nf_core.specs.Trees.{Rule as RuleOf, IsRule};
+ghost use Rattle.nf_core.specs.Written.{names_in, names_of, names_read, keys_of_name, member_by, members_by, term_of, entry_of, first_of, link_of, plan_rule};
 
 use crate::errors::NoMemory;
 use crate::lists::ListOf;
+use crate::names::Names;
 use crate::numbered_terms::{Member, Members, numbered_term};
 use crate::numbering::number_of;
 use crate::terms::{Link, PlanEntry, PlanEntryList, PlanRule, Term};
@@ -19,12 +15,11 @@ use crate::text_sets::TextSet;
 use crate::trees::{Atom, Body, Entry, EntryList, Expr, Rule, RuleList};
 use std::alloc::Global;
 
-/// Rules over the numbers of their names (`plan_rule` of specs/Written). No two atoms of a rule may
-/// have one label. As a by-product it is said of each rule what holds of all: that its expressions are
-/// within the limits (`IsRule` of specs/Trees).
+/// Rules over the numbers of their names (`plan_rule` of specs/Written). As a by-product it is said of
+/// each rule what holds of all: that its expressions are within the limits (`IsRule` of specs/Trees).
 pub fn rules_by_number(
     alloc: Global,
-    names: &TextSet,
+    names: &Names,
     keys: &[TextSet],
     rules: &RuleList,
 ) -> Result<ListOf<PlanRule>, NoMemory>
@@ -32,7 +27,6 @@ pub fn rules_by_number(
     requires keyed { keys.now ≡ map (keys_of_name rules.now) names.now }
     requires few { length names.now < 2 ^ 32 }
     requires few_keys { All (λ list. length list < 2 ^ 32) keys.now }
-    requires labels { All (λ (rule : RuleOf). IsDistinct text_eq (labels_of rule.body)) rules.now }
     ensures rules { IfOk result (λ list. list ≡ map (plan_rule rules.now) rules.now) }
     ensures limits { OnOk result (All IsRule rules.now) }
 {
@@ -46,7 +40,7 @@ pub fn rules_by_number(
 /// A rule over the numbers of its names.
 fn numbered_rule(
     alloc: Global,
-    names: &TextSet,
+    names: &Names,
     keys: &[TextSet],
     rule: &Rule,
 ) -> Result<PlanRule, NoMemory>
@@ -54,8 +48,7 @@ fn numbered_rule(
     requires few_keys { All (λ list. length list < 2 ^ 32) keys.now }
     requires each { length keys.now ≡ length names.now }
     requires known { All (Contains names.now) (names_in rule.now) }
-    requires labels { IsDistinct text_eq (labels_of rule.now.body) }
-    ensures rule { IfOk result (λ made. (rules : List RuleOf) → names.now ≡ names_of rules → keys.now ≡ map (keys_of_name rules) names.now → made ≡ plan_rule rules rule.now) }
+    ensures rule { IfOk result (IsNumbered names.now keys.now rule.now) }
     ensures limits { IsRule rule.now }
 {
     let head = number_of(names, &rule.head);
@@ -74,23 +67,25 @@ fn numbered_rule(
 }
 
 /// The number of a body's first name.
-fn first_number(names: &TextSet, body: &Body) -> u32
+fn first_number(names: &Names, body: &Body) -> u32
     requires few { length names.now < 2 ^ 32 }
-    requires known { All (Contains names.now) (map (λ (atom : AtomOf). atom.name) (atoms_of body.now)) }
-    ensures { (rules : List RuleOf) → names_of rules ≡ names.now → result ≡ first_of rules body.now }
+    requires known { All (Contains names.now) (names_read body.now) }
+    ensures { (rules : List RuleOf) → names_of rules ≡ names.now
+        → result ≡ first_of rules body.now }
 {
     match body {
-        Body::One(first) => number_of(names, &first.name),
-        Body::Pair(first, _, _) => number_of(names, &first.name),
-        Body::Unless(first, _, _) => number_of(names, &first.name),
+        Body::One(first) | Body::Pair(first, _, _) | Body::Unless(first, _, _) => {
+            number_of(names, &first.name)
+        }
     }
 }
 
 /// How a body's first name is linked to its second one, by that name's number.
-fn numbered_link(names: &TextSet, body: &Body) -> Link
+fn numbered_link(names: &Names, body: &Body) -> Link
     requires few { length names.now < 2 ^ 32 }
-    requires known { All (Contains names.now) (map (λ (atom : AtomOf). atom.name) (atoms_of body.now)) }
-    ensures { (rules : List RuleOf) → names_of rules ≡ names.now → result ≡ link_of rules body.now }
+    requires known { All (Contains names.now) (names_read body.now) }
+    ensures { (rules : List RuleOf) → names_of rules ≡ names.now
+        → result ≡ link_of rules body.now }
 {
     match body {
         Body::One(_) => Link::One,
@@ -100,47 +95,30 @@ fn numbered_link(names: &TextSet, body: &Body) -> Link
 }
 
 /// The members of a body as its rule's expressions read them.
-fn members_of<'a>(names: &TextSet, keys: &'a [TextSet], body: &'a Body) -> Members<'a>
+fn members_of<'a>(names: &Names, keys: &'a [TextSet], body: &'a Body) -> Members<'a>
     requires few { length names.now < 2 ^ 32 }
     requires each { length keys.now ≡ length names.now }
-    requires known { All (Contains names.now) (map (λ (atom : AtomOf). atom.name) (atoms_of body.now)) }
-    ensures { members_seen result ≡ members_by (λ name. slice_index_or keys.now (place_of names.now name) []) body.now }
+    requires known { All (Contains names.now) (names_read body.now) }
+    ensures { members_seen result ≡ members_by (keys_at names.now keys.now) body.now }
 {
     match body {
         Body::One(first) => Members {
             first: member(names, keys, first),
             second: None,
         },
-        Body::Pair(first, _, second) => members(names, keys, first, second),
-        Body::Unless(first, _, second) => members(names, keys, first, second),
-    }
-}
-
-/// Two atoms as the expressions of a rule read them.
-fn members<'a>(
-    names: &TextSet,
-    keys: &'a [TextSet],
-    first: &'a Atom,
-    second: &'a Atom,
-) -> Members<'a>
-    requires few { length names.now < 2 ^ 32 }
-    requires each { length keys.now ≡ length names.now }
-    requires first { Contains names.now first.now.name }
-    requires second { Contains names.now second.now.name }
-    ensures { members_seen result ≡ map (member_by (λ name. slice_index_or keys.now (place_of names.now name) [])) (first.now ∷ second.now ∷ []) }
-{
-    Members {
-        first: member(names, keys, first),
-        second: Some(member(names, keys, second)),
+        Body::Pair(first, _, second) | Body::Unless(first, _, second) => Members {
+            first: member(names, keys, first),
+            second: Some(member(names, keys, second)),
+        },
     }
 }
 
 /// An atom as the expressions of a rule read it.
-fn member<'a>(names: &TextSet, keys: &'a [TextSet], atom: &'a Atom) -> Member<'a>
+fn member<'a>(names: &Names, keys: &'a [TextSet], atom: &'a Atom) -> Member<'a>
     requires few { length names.now < 2 ^ 32 }
     requires each { length keys.now ≡ length names.now }
     requires known { Contains names.now atom.now.name }
-    ensures { member_seen result ≡ member_by (λ name. slice_index_or keys.now (place_of names.now name) []) atom.now }
+    ensures { member_seen result ≡ member_by (keys_at names.now keys.now) atom.now }
 {
     Member {
         label: &atom.label,
@@ -155,7 +133,7 @@ fn numbered_clause(
     expr: &Option<Expr>,
 ) -> Result<Option<Term>, NoMemory>
     requires few { All HasFewKeys (members_seen members.now) }
-    ensures { IfOk result (λ term. term ≡ option_map (numbered (members_seen members.now)) expr.now) }
+    ensures { IfOk result (λ t. t ≡ option_map (term_of (members_seen members.now)) expr.now) }
 {
     match expr {
         Some(expr) => Ok(Some(numbered_term(alloc, members, expr)?)),
@@ -172,7 +150,8 @@ fn numbered_map(
 ) -> Result<PlanEntryList, NoMemory>
     requires few { All HasFewKeys (members_seen members.now) }
     requires few_keys { length keys.now < 2 ^ 32 }
-    ensures { IfOk result (λ list. list ≡ map (λ (entry : EntryOf). record { place = place_of keys.now entry.key; value = numbered (members_seen members.now) entry.value }) entries.now) }
+    ensures { IfOk result
+        (λ list. list ≡ map (entry_of keys.now (members_seen members.now)) entries.now) }
 {
     let mut list = PlanEntryList::new(alloc);
     for entry in entries.as_slice() {
@@ -190,7 +169,7 @@ fn numbered_entry(
 ) -> Result<PlanEntry, NoMemory>
     requires few { All HasFewKeys (members_seen members.now) }
     requires few_keys { length keys.now < 2 ^ 32 }
-    ensures { IfOk result (λ made. made ≡ record { place = place_of keys.now entry.now.key; value = numbered (members_seen members.now) entry.now.value }) }
+    ensures { IfOk result (λ made. made ≡ entry_of keys.now (members_seen members.now) entry.now) }
 {
     Ok(PlanEntry {
         place: keys.place_of(entry.key.as_str()) as u32,

@@ -2,8 +2,8 @@
 
 ghost use Rattle.std.specs.Prelude.{◌≡◌, [], unwrap_or, All, IfOk};
 ghost use Rattle.std.specs.Option.{option_copied};
-ghost use Rattle.nf_core.specs.Numbered.{members_seen, number_under, keys_under, numbered, HasFewKeys};
-ghost use Rattle.nf_core.specs.Written.{place_of};
+ghost use Rattle.nf_core.specs.inner.Numbered.{members_seen, HasFewKeys};
+ghost use Rattle.nf_core.specs.Written.{place_of, number_under, keys_under, term_of};
 
 use crate::copies::TryCopy;
 use crate::errors::NoMemory;
@@ -22,7 +22,7 @@ pub struct Member<'a> {
 }
 
 /// The members of a rule: number 0 is the first one, and number 1 the second, where there is one.
-/// Contracts see the list of them (`members_seen` of specs/Numbered).
+/// Contracts see the list of them (`members_seen` of specs/inner/Numbered).
 #[derive(Clone, Copy)]
 pub struct Members<'a> {
     pub first: Member<'a>,
@@ -57,25 +57,26 @@ impl<'a> Members<'a> {
 
     // The keys of the first member with a label.
     fn keys(&self, label: &Text) -> Option<&'a TextSet>
-        ensures { unwrap_or (option_copied result) [] ≡ keys_under (members_seen self.now) label.now }
+        ensures { unwrap_or (option_copied result) []
+            ≡ keys_under (members_seen self.now) label.now }
     {
-        if self.first.label == label {
+        if label == self.first.label {
             return Some(self.first.keys);
         }
         match self.second {
-            Some(second) if second.label == label => Some(second.keys),
+            Some(second) if label == second.label => Some(second.keys),
             _ => None,
         }
     }
 }
 
-/// An expression as a term over members (`numbered` of specs/Numbered). Each of its nodes is visited
+/// An expression as a term over members (`term_of` of specs/Written). Each of its nodes is visited
 /// once. It calls itself for each operand, so it stands as many calls deep as the expression has nodes
 /// on a way down, which is at most one more than it has operators: at most 257 calls in a rule.
-#[tactic(auto, unfolding(crate::specs::Numbered::numbered, crate::specs::Numbered::numbered_node))]
+#[tactic(auto, unfolding(crate::specs::Written::term_of, crate::specs::Written::term_at_node))]
 pub fn numbered_term(alloc: Global, members: &Members<'_>, expr: &Expr) -> Result<Term, NoMemory>
     requires few { All HasFewKeys (members_seen members.now) }
-    ensures { IfOk result (λ term. term ≡ numbered (members_seen members.now) expr.now) }
+    ensures { IfOk result (λ term. term ≡ term_of (members_seen members.now) expr.now) }
 {
     match expr {
         Expr::Bool(b) => Ok(Term::Bool(*b)),

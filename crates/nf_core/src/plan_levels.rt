@@ -1,10 +1,12 @@
 //! The levels of names.
 
-ghost use Rattle.std.specs.Prelude.{◌≡◌, [], ◌∷◌, ◌++◌, None, OnOk, OnErr};
+ghost use Rattle.std.specs.Prelude.{◌≡◌, [], ◌∷◌, ◌++◌, length, None, OnOk, OnErr};
+ghost use Rattle.std.specs.List.{zip};
 ghost use Rattle.nf_core.specs.Written.{level_of_name};
 
 use crate::errors::NoMemory;
-use indexmap::IndexMap;
+use crate::names::Names;
+use crate::text_sets::TextSet;
 use std::alloc::Global;
 use std::marker::Model;
 
@@ -12,16 +14,19 @@ use std::marker::Model;
 /// added (`Levels` of specs/Written).
 #[derive(Debug, Drop)]
 pub struct Levels {
-    levels: IndexMap<String, u32>,
+    names: TextSet,
+    levels: Vec<u32>,
 }
 
 impl Model for Levels {
-    ghost use Rattle.std.specs.Prelude.{List, ℕ, map};
-    ghost use Rattle.std.specs.String.{string_bytes};
+    ghost use Rattle.std.specs.Prelude.{◌≡◌, List, ℕ, length};
+    ghost use Rattle.std.specs.List.{zip};
 
     ghost Value = { List (List ℕ × ℕ) };
 
-    ghost view = { λ l. map (λ level. (string_bytes level.0, level.1)) l.levels.entries };
+    ghost view = { λ l. zip l.names l.levels.items };
+
+    ghost invariant = { λ l. length l.names ≡ length l.levels.items };
 }
 
 impl Levels {
@@ -30,7 +35,19 @@ impl Levels {
         ensures { result ≡ [] }
     {
         Levels {
-            levels: IndexMap::new(alloc),
+            names: TextSet::new(alloc),
+            levels: Vec::new(alloc),
+        }
+    }
+
+    /// Names, each with the level at its number. Takes no memory.
+    pub fn of_names(names: Names, levels: Vec<u32>) -> Levels
+        requires { length names ≡ length levels.items }
+        ensures { result ≡ zip names levels.items }
+    {
+        Levels {
+            names: names.into_texts(),
+            levels,
         }
     }
 
@@ -41,15 +58,21 @@ impl Levels {
         ensures ok { OnOk result (self.new ≡ self.old ++ (name.now, level) ∷ []) }
         ensures err { OnErr result (self.new ≡ self.old) }
     {
-        let name = String::from_str(*self.levels.allocator(), name)?;
-        self.levels.insert(name, level)?;
-        Ok(())
+        self.levels.push(level)?;
+        match self.names.add(name) {
+            Ok(()) => Ok(()),
+            Err(error) => {
+                self.levels.pop();
+                Err(error)
+            }
+        }
     }
 
     /// The level of a name. None exactly where it has none.
     pub fn of(&self, name: &str) -> Option<u32>
         ensures { result ≡ level_of_name self.now name.now }
     {
-        self.levels.get(name).copied()
+        let place = self.names.find(name)?;
+        Some(self.levels[place])
     }
 }

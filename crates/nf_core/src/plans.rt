@@ -8,8 +8,9 @@ use crate::copies::TryCopy;
 use crate::errors::NoMemory;
 use crate::key_places::keys_by_number;
 use crate::lists::ListOf;
+use crate::names::Names;
 use crate::numbered_rules::rules_by_number;
-use crate::numbering::{levels_by_number, names_by_number};
+use crate::numbering::levels_by_number;
 use crate::plan_levels::Levels;
 use crate::terms::PlanRule;
 use crate::text_sets::TextSet;
@@ -22,7 +23,7 @@ use std::marker::Model;
 /// true of every plan.
 #[derive(Debug, Drop)]
 pub struct Plan {
-    names: TextSet,
+    names: Names,
     keys: ListOf<TextSet>,
     rules: ListOf<PlanRule>,
     levels: Vec<u32>,
@@ -46,13 +47,13 @@ impl Plan {
     /// The plan of rules with their levels (`plan_of` of specs/Written): names are numbered by first
     /// appearance, each head before its body, the keys of a name ascend, and rules stay in their
     /// order. The rules need names and keys that are identifiers, fewer than 2^32 of each, right
-    /// kinds and plain texts (`CanBePlanned`), and every name needs its level (`AreLevels`).
+    /// kinds, whole numbers within 64 bits and plain texts (`CanBePlanned`), and every name needs its level (`AreLevels`).
     pub fn build(alloc: Global, rules: &RuleList, levels: &Levels) -> Result<Plan, NoMemory>
         requires planned { CanBePlanned rules.now }
         requires leveled { AreLevels rules.now levels.now }
         ensures { IfOk result (λ plan. plan ≡ plan_of rules.now levels.now) }
     {
-        let names = names_by_number(alloc, rules)?;
+        let names = Names::of(alloc, rules)?;
         let keys = keys_by_number(alloc, &names, rules)?;
         let numbered = rules_by_number(alloc, &names, keys.as_slice(), rules)?;
         let levels = levels_by_number(alloc, &names, levels)?;
@@ -98,12 +99,12 @@ impl Plan {
         self.keys.as_slice()[name as usize].at(place as usize)
     }
 
-    /// Whether a name is the head of a rule.
+    /// Whether a name is the head of a rule: exactly then its level is above 0.
     pub fn is_head(&self, name: u32) -> bool
         requires { name < length self.now.names }
         ensures { result ≡ is_head self.now name }
     {
-        self.rules.as_slice().iter().any(|rule| rule.head == name)
+        self.levels[name as usize] > 0
     }
 
     /// The level of a name: 0 where it has no rules, else one more than the greatest level of a name

@@ -1,4 +1,4 @@
-pub mod Equal
-pub mod OfKind
-pub mod Deep
-pub mod Plain
+pub mod TextEqualityLemmas
+pub mod KindLemmas
+pub mod DepthLemmas
+pub mod PlainValueLemmas

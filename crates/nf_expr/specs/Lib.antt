@@ -1,2 +1,4 @@
 pub mod Seen
 pub mod Depth
+pub mod Evaluation
+pub mod inner

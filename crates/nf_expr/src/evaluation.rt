@@ -1,13 +1,12 @@
 //! Expressions over one or two members.
 
-ghost use Rattle.std.specs.Prelude.{◌≡◌, ◌+◌, nat_lt, slice_index, option_map, option_and_then, slice_index_or, None, IfSome, IsTrue, All};
+ghost use Rattle.std.specs.Prelude.{◌≡◌, ◌+◌};
 ghost use Rattle.std.specs.Option.{option_copied};
-ghost use Rattle.nf_core.specs.Expressions as spec;
-ghost use Rattle.nf_core.specs.Intervals.{Interval as IntervalOf};
-ghost use Rattle.nf_core.specs.Texts.{IsPlain};
+ghost use Rattle.nf_core.specs.Expressions.{member, value_of};
 ghost use Rattle.nf_core.specs.Rows.{IsPlainCell};
-ghost use Rattle.nf_core.specs.Kinds.{Kind, kind_of_term, IsOfKind};
-ghost use Rattle.nf_expr.specs.Seen.{value_seen};
+ghost use Rattle.nf_expr.specs.Seen.{cell_seen};
+ghost use Rattle.nf_expr.specs.Evaluation.{ReadsWithin, IsOfItsKind, StaysPlain};
+ghost use Rattle.nf_expr.specs.inner.Keys.{cell_at, HasPlace};
 
 use crate::operators::{binary, inverted, negated};
 use crate::seen::Seen;
@@ -16,13 +15,13 @@ use std::sync::ledger::Ledger;
 
 /// The value of an expression over one or two members, as lent: member 0 is `first`, and member 1 is
 /// `second`. None exactly where the value is Undefined (`value_of` of nf_core's specs/Expressions).
-/// Where the expression has a kind, its value is of that kind (`kind_of_term` of nf_core's
-/// specs/Kinds). Where its texts are plain (`texts_of`, `IsPlain`), a text that is seen is plain, so
-/// that it may stand in a row.
+/// Where the expression has a kind, its value is of that kind (`IsOfItsKind` of specs/Evaluation).
+/// Where its texts are plain, a text that is seen is plain, so that it may stand in a row
+/// (`StaysPlain`).
 ///
 /// The expression must read no members but these, the second one only where it is given, and keys
-/// only at places, counted from 0, that the rows of these members have (`reads_within` of nf_core's
-/// specs/Expressions).
+/// only at places, counted from 0, that the rows of these members have (`ReadsWithin` of
+/// specs/Evaluation).
 ///
 /// All operands are evaluated, so an Undefined one makes the value Undefined, also at `&` and `|`.
 /// One call raises the counter by exactly 1, however many operators there are. No memory is taken:
@@ -31,33 +30,33 @@ use std::sync::ledger::Ledger;
 /// The evaluation calls itself for each operand, so it stands as many calls deep as the expression
 /// has nodes on a way down, which is at most one more than it has operators. An expression of a plan
 /// has at most 256 operators: at most 257 calls.
-#[tactic(auto, using(crate::proofs::OfKind::seen_is_of_kind))]
+#[tactic(auto, using(crate::proofs::KindLemmas::seen_is_of_kind))]
 pub fn eval<'a, L: Ledger>(
     term: &'a Term,
     first: &'a Interval,
     second: Option<&'a Interval>,
     steps: &mut Steps<L>,
 ) -> Option<Seen<'a>>
-    requires { IsTrue (spec.reads_within (spec.widths_of first.now (option_copied second)) term.now) }
-    ensures value { option_map value_seen result ≡ spec.value_of first.now (option_copied second.entry) term.now }
-    ensures plain { All IsPlain (spec.texts_of term.now) → IsPlainCell (option_map value_seen result) }
-    ensures kind { (k : Kind) → kind_of_term term.now ≡ Some k → IfSome result (λ seen. IsOfKind k (value_seen seen)) }
+    requires { ReadsWithin first.now (option_copied second) term.now }
+    ensures value { cell_seen result ≡ value_of first.now (option_copied second.entry) term.now }
+    ensures plain { StaysPlain term.now result }
+    ensures kind { IsOfItsKind term.now result }
     ensures steps { steps.new ≡ steps.old + 1 }
 {
     steps.tick();
     value_of(term, first, second)
 }
 
-// The value of an expression, node by node.
-#[tactic(auto, using(crate::proofs::Plain::negated_is_plain, crate::proofs::Plain::inverted_is_plain, crate::proofs::Plain::binary_is_plain, crate::proofs::Plain::first_is_plain), unfolding(nf_core::specs::Expressions::texts_of, nf_core::specs::Expressions::texts_at_node, nf_core::specs::Expressions::value_of, nf_core::specs::Expressions::value_of_node, nf_core::specs::Expressions::reads_within, nf_core::specs::Expressions::reads_within_node))]
+/// The value of an expression, node by node (`value_of` of nf_core's specs/Expressions).
+#[tactic(auto, using(crate::proofs::PlainValueLemmas::negated_is_plain, crate::proofs::PlainValueLemmas::inverted_is_plain, crate::proofs::PlainValueLemmas::binary_is_plain, crate::proofs::PlainValueLemmas::first_is_plain), unfolding(nf_core::specs::Expressions::texts_of, nf_core::specs::Expressions::texts_at_node, nf_core::specs::Expressions::value_of, nf_core::specs::Expressions::value_of_node, nf_core::specs::Expressions::reads_within, nf_core::specs::Expressions::reads_within_node))]
 fn value_of<'a>(
     term: &'a Term,
     first: &'a Interval,
     second: Option<&'a Interval>,
 ) -> Option<Seen<'a>>
-    requires { IsTrue (spec.reads_within (spec.widths_of first.now (option_copied second)) term.now) }
-    ensures value { option_map value_seen result ≡ spec.value_of first.now (option_copied second.entry) term.now }
-    ensures plain { All IsPlain (spec.texts_of term.now) → IsPlainCell (option_map value_seen result) }
+    requires { ReadsWithin first.now (option_copied second) term.now }
+    ensures value { cell_seen result ≡ value_of first.now (option_copied second.entry) term.now }
+    ensures plain { StaysPlain term.now result }
 {
     match term {
         Term::Bool(b) => Some(Seen::Bool(*b)),
@@ -76,14 +75,14 @@ fn value_of<'a>(
     }
 }
 
-// Member 0 is the first one, and member 1 the second.
+/// The member with this number: member 0 is the first one, and member 1 the second.
 #[tactic(auto, unfolding(nf_core::specs::Expressions::member))]
 pub(crate) fn member<'a>(
     first: &'a Interval,
     second: Option<&'a Interval>,
     number: u8,
 ) -> Option<&'a Interval>
-    ensures { option_copied result ≡ spec.member first.now (option_copied second.entry) number }
+    ensures { option_copied result ≡ member first.now (option_copied second.entry) number }
 {
     match number {
         0 => Some(first),
@@ -92,7 +91,7 @@ pub(crate) fn member<'a>(
     }
 }
 
-// The value of a key of a member, by its place in the member's row.
+/// The value of a key of a member, by its place in the member's row. None where the row has none.
 #[tactic(auto, unfolding(nf_core::specs::Expressions::member))]
 fn key<'a>(
     first: &'a Interval,
@@ -100,9 +99,9 @@ fn key<'a>(
     number: u8,
     place: u32,
 ) -> Option<Seen<'a>>
-    requires { IsTrue (nat_lt place (slice_index (spec.widths_of first.now (option_copied second)) number)) }
-    ensures value { option_map value_seen result ≡ option_and_then (λ (i : IntervalOf). slice_index_or i.row place None) (spec.member first.now (option_copied second.entry) number) }
-    ensures plain { IsPlainCell (option_map value_seen result) }
+    requires { HasPlace first.now (option_copied second) number place }
+    ensures value { cell_seen result ≡ cell_at first.now (option_copied second.entry) number place }
+    ensures plain { IsPlainCell (cell_seen result) }
 {
     let value = member(first, second, number)?.row.get(place as usize)?;
     Some(Seen::of(value))

@@ -10,8 +10,6 @@ mod evaluation;
 mod laws;
 mod operators;
 mod seen;
-#[cfg(test)]
-mod tests;
 
 pub use evaluation::eval;
 pub use laws::expressions_are_no_deeper_than_operators;

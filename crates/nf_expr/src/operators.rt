@@ -1,11 +1,11 @@
 //! The operators of expressions on values.
-#![tactic(auto, using(crate::proofs::Equal::text_eq_is), unfolding(nf_core::specs::Expressions::negated, nf_core::specs::Expressions::inverted, nf_core::specs::Expressions::binary, nf_core::specs::Expressions::of_bools, nf_core::specs::Expressions::of_ints, nf_core::specs::Expressions::in_range))]
+#![tactic(auto, using(crate::proofs::TextEqualityLemmas::text_eq_is), unfolding(nf_core::specs::Expressions::negated, nf_core::specs::Expressions::inverted, nf_core::specs::Expressions::binary, nf_core::specs::Expressions::of_bools, nf_core::specs::Expressions::of_ints, nf_core::specs::Expressions::in_range))]
 
-ghost use Rattle.std.specs.Prelude.{◌≡◌, ◌≢◌, option_map};
-ghost use Rattle.nf_core.specs.Expressions as spec;
+ghost use Rattle.std.specs.Prelude.{◌≡◌, ◌≢◌};
+ghost use Rattle.nf_core.specs.Expressions.{negated, inverted, binary};
 ghost use Rattle.nf_core.specs.Kinds.{kind_of_value};
 ghost use Rattle.nf_core.specs.declared.values.Value.TheVariants as variant;
-ghost use Rattle.nf_expr.specs.Seen.{value_seen};
+ghost use Rattle.nf_expr.specs.Seen.{value_seen, cell_seen};
 
 use crate::seen::Seen;
 use nf_core::{BinOp, Text};
@@ -13,7 +13,7 @@ use nf_core::{BinOp, Text};
 /// Unary `-`: of a whole number, where the result is in range. Else None (`negated` of nf_core's
 /// specs/Expressions).
 pub(crate) fn negated(operand: Seen<'_>) -> Option<Seen<'_>>
-    ensures { option_map value_seen result ≡ spec.negated (value_seen operand.entry) }
+    ensures { cell_seen result ≡ negated (value_seen operand.entry) }
 {
     match operand {
         Seen::Int(n) => Some(Seen::Int(n.checked_neg()?)),
@@ -23,7 +23,7 @@ pub(crate) fn negated(operand: Seen<'_>) -> Option<Seen<'_>>
 
 /// `!`: of a truth value. Else None (`inverted` of nf_core's specs/Expressions).
 pub(crate) fn inverted(operand: Seen<'_>) -> Option<Seen<'_>>
-    ensures { option_map value_seen result ≡ spec.inverted (value_seen operand.entry) }
+    ensures { cell_seen result ≡ inverted (value_seen operand.entry) }
 {
     match operand {
         Seen::Bool(b) => Some(Seen::Bool(!b)),
@@ -35,7 +35,7 @@ pub(crate) fn inverted(operand: Seen<'_>) -> Option<Seen<'_>>
 /// result is out of range (`binary` of nf_core's specs/Expressions).
 #[tactic(auto)]
 pub(crate) fn binary<'a>(op: BinOp, left: Seen<'a>, right: Seen<'a>) -> Option<Seen<'a>>
-    ensures { option_map value_seen result ≡ spec.binary op (value_seen left.entry) (value_seen right.entry) }
+    ensures { cell_seen result ≡ binary op (value_seen left.entry) (value_seen right.entry) }
 {
     match (left, right) {
         (Seen::Bool(p), Seen::Bool(q)) => of_truths(op, p, q),
@@ -45,9 +45,9 @@ pub(crate) fn binary<'a>(op: BinOp, left: Seen<'a>, right: Seen<'a>) -> Option<S
     }
 }
 
-// An operator on two truth values.
+/// An operator on two truth values.
 fn of_truths<'a>(op: BinOp, p: bool, q: bool) -> Option<Seen<'a>>
-    ensures { option_map value_seen result ≡ spec.binary op (variant.Bool p) (variant.Bool q) }
+    ensures { cell_seen result ≡ binary op (variant.Bool p) (variant.Bool q) }
 {
     match op {
         BinOp::Or => Some(Seen::Bool(p || q)),
@@ -58,9 +58,9 @@ fn of_truths<'a>(op: BinOp, p: bool, q: bool) -> Option<Seen<'a>>
     }
 }
 
-// An operator on two whole numbers.
+/// An operator on two whole numbers.
 fn of_numbers<'a>(op: BinOp, m: i64, n: i64) -> Option<Seen<'a>>
-    ensures { option_map value_seen result ≡ spec.binary op (variant.Int m) (variant.Int n) }
+    ensures { cell_seen result ≡ binary op (variant.Int m) (variant.Int n) }
 {
     match op {
         BinOp::Or | BinOp::And => None,
@@ -78,9 +78,9 @@ fn of_numbers<'a>(op: BinOp, m: i64, n: i64) -> Option<Seen<'a>>
     }
 }
 
-// An operator on two texts.
+/// An operator on two texts.
 fn of_texts<'a>(op: BinOp, s: &Text, t: &Text) -> Option<Seen<'a>>
-    ensures { option_map value_seen result ≡ spec.binary op (variant.Text s.now) (variant.Text t.now) }
+    ensures { cell_seen result ≡ binary op (variant.Text s.now) (variant.Text t.now) }
 {
     match op {
         BinOp::Eq => Some(Seen::Bool(s == t)),
@@ -89,10 +89,10 @@ fn of_texts<'a>(op: BinOp, s: &Text, t: &Text) -> Option<Seen<'a>>
     }
 }
 
-// An operator on two values of different kinds.
+/// An operator on two values of different kinds.
 fn of_unlike<'a>(op: BinOp, left: Seen<'a>, right: Seen<'a>) -> Option<Seen<'a>>
     requires { kind_of_value (value_seen left) ≢ kind_of_value (value_seen right) }
-    ensures { option_map value_seen result ≡ spec.binary op (value_seen left.entry) (value_seen right.entry) }
+    ensures { cell_seen result ≡ binary op (value_seen left.entry) (value_seen right.entry) }
 {
     match op {
         BinOp::Eq => Some(Seen::Bool(false)),

@@ -1,2 +1,3 @@
-pub mod Pieces
-pub mod Found
+pub mod Public
+pub mod PieceLemmas
+pub mod FileLemmas

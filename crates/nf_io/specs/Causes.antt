@@ -1,5 +1,5 @@
-use Rattle.std.specs.Prelude.{◌≡◌, ℕ, ◌+◌, ◌-◌, ◌^◌, ◌<◌, ◌≤◌, ◌⊎◌, Result, OnErr, is_ok, min, if◌then◌else◌}
-use Rattle.std.proofs.Common.{inl, inr, arith}
+-- Causes of failures: counts of faults that rise.
+use Rattle.std.specs.Prelude.{◌≡◌, ℕ, ◌+◌, ◌-◌, ◌^◌, ◌<◌, ◌⊎◌, Result, OnErr, is_ok, min, if◌then◌else◌}
 
 -- the greatest count that a counter holds; a counter that stands there stays there
 abbrev pub count_limit : ℕ
@@ -20,13 +20,3 @@ risen count = min (count + 1) count_limit
 -- the count of faults after an answer: after a failure one more
 abbrev pub faults_after : {T E : Type 0} → ℕ → Result T E → ℕ
 faults_after faults result = if is_ok result then faults else risen faults
-
--- a count that rose and never fell afterwards has risen in all
-pub Rose-then_later : (first before now : ℕ) → first ≤ before → Rose first before → before ≤ now → Rose first now
-Rose-then_later first before now was (inl rose) later = inl (omega arith)
-Rose-then_later first before now was (inr at_limit) later = grind arith
-
--- a count that never fell before it rose has risen in all
-pub later-then_Rose : (first before now : ℕ) → first ≤ before → Rose before now → Rose first now
-later-then_Rose first before now later (inl rose) = inl (omega arith)
-later-then_Rose first before now later (inr at_limit) = inr at_limit

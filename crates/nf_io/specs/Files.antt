@@ -1,3 +1,4 @@
+-- Named files, and the bytes of each.
 use Rattle.std.specs.Prelude.{ℕ, List, [], Option, option_map, unwrap_or, is_some, find, bytes_eq, if◌then◌else◌}
 
 -- a map from names to bytes, as a list of names with their bytes; the first entry of a name counts

@@ -1,7 +1,9 @@
-use Rattle.std.specs.Prelude.{ℕ, Bool, ◌<◌, ◌≤◌, IfSome, slice_get, ◌==◌, nat_le, List, [], ◌++◌, length, min, Option, None, Some, unwrap_or, if◌then◌else◌}
+-- What a contract sees of the shelves and sinks in memory, and what they tell.
+use Rattle.std.specs.Prelude.{ℕ, Bool, false, ◌==◌, nat_le, List, [], ◌++◌, length, min, Option, None, Some, unwrap_or, if◌then◌else◌}
 use Rattle.std.specs.List.{list_any}
 use Rattle.nf_io.specs.Causes.{risen}
 use Rattle.nf_io.specs.Files.{Files}
+use Rattle.nf_io.specs.Tells.{ShelfTells, SinkTells}
 
 -- a shelf without failures: its files, the most bytes of one read, the name asked for, and what is left of the
 -- current file, which is told where the last pick answered Ok
@@ -56,12 +58,30 @@ told_after room None piece = None
 told_after room (Some taken) piece =
     if nat_le (length (taken ++ piece)) room then Some (taken ++ piece) else None
 
--- the name and the bytes at this place of a map, and nothing of either where there is no such place
-abbrev pub entry_at : Files → Option ℕ → List ℕ × List ℕ
-entry_at files None = ([], [])
-entry_at files (Some place) = unwrap_or (slice_get files place) ([], [])
+-- what a shelf without failures tells: its files and the name asked for, from the start
+abbrev pub sure_shelf_tells : SureShelfState → ShelfTells
+sure_shelf_tells shelf = record {
+  files = Some shelf.files;
+  asked = Some shelf.asked;
+  rest = shelf.rest;
+  failed = false;
+  faults = 0;
+}
 
--- a shelf stands in the file at this place: a read may give a byte, and no more was read than is there
-pub record IsReading (files : Files) (most : ℕ) (place from : Option ℕ) : Type 0 where
-  pub some : 0 < most
-  pub within : IfSome from (λ start. start ≤ length (entry_at files place).1)
+-- what a shelf with failures tells: its files and the name asked for, from the start
+abbrev pub mem_shelf_tells : MemShelfState → ShelfTells
+mem_shelf_tells shelf = record {
+  files = Some shelf.files;
+  asked = Some shelf.asked;
+  rest = shelf.rest;
+  failed = shelf.failed;
+  faults = shelf.faults;
+}
+
+-- what a sink without failures tells
+abbrev pub sure_sink_tells : SureSinkState → SinkTells
+sure_sink_tells sink = record { taken = sink.taken; faults = 0 }
+
+-- what a sink with failures tells
+abbrev pub mem_sink_tells : MemSinkState → SinkTells
+mem_sink_tells sink = record { taken = sink.taken; faults = sink.faults }

@@ -17,7 +17,8 @@ pub(crate) fn copy_some(places: &mut [u8], bytes: &[u8], most: usize) -> usize
 pub(crate) fn copy_after(places: &mut [u8], used: usize, bytes: &[u8]) -> usize
     requires { used ≤ length places.old }
     ensures count { result ≡ min (length places.old - used) (length bytes.now) }
-    ensures bytes { take (used + result) places.new ≡ take used places.old ++ take result bytes.now }
+    ensures bytes { take (used + result) places.new
+        ≡ take used places.old ++ take result bytes.now }
 {
     copy_some(&mut places[used..], bytes, bytes.len())
 }

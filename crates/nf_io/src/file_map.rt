@@ -1,7 +1,7 @@
 //! Files in memory: a map from names to bytes.
 ghost use Rattle.std.specs.Prelude.{◌≡◌, ◌≢◌, ℕ, List, [], ◌∷◌, Some, OnOk, OnErr, IfOk, bytes_eq, position, is_some};
 ghost use Rattle.nf_io.specs.Files.{file_of, asked_of, bytes_of};
-ghost use Rattle.nf_io.specs.Memory.{entry_at};
+ghost use Rattle.nf_io.specs.inner.Places.{entry_at};
 
 use nf_core::NoMemory;
 use std::alloc::Global;

@@ -5,10 +5,10 @@
 //! of faults rose. The forms in memory tell everything, and fail exactly at chosen calls or never;
 //! the real forms are the trusted edge, and tell nothing of their content.
 //!
-//! The definitions are those of specs/: the map of the files (Files), what one read gives and what
-//! a sink took (Bytes), causes of failures (Causes), and what a contract sees of the forms in
-//! memory (Memory) and of the real shelf (Real). Below stands want of memory; above stand the
-//! calls that read a whole input and write a whole output.
+//! The definitions are those of specs/: the map of the files (Files), what a shelf and a sink tell
+//! (Tells), what one read gives and what a sink took (Bytes), causes of failures (Causes), and what a
+//! contract sees of the forms in memory (Memory) and of the real ones (Real). Below stands want of
+//! memory; above stand the calls that read a whole input and write a whole output.
 #![tactic(auto)]
 
 mod call_list;
@@ -36,6 +36,3 @@ pub use shelves::Shelf;
 pub use sinks::{Sink, write_all};
 pub use sure_shelf::SureShelf;
 pub use sure_sink::SureSink;
-
-#[cfg(test)]
-mod tests;

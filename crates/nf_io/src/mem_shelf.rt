@@ -3,7 +3,7 @@ ghost use Rattle.std.specs.Prelude.{◌≡◌, ◌<◌, ◌≤◌, ◌||◌, [],
 ghost use Rattle.nf_io.specs.Files.{file_of, asked_of, bytes_of};
 ghost use Rattle.nf_io.specs.Bytes.{Gives};
 ghost use Rattle.nf_io.specs.Causes.{HasCause, faults_after, risen};
-ghost use Rattle.nf_io.specs.Memory.{is_next_listed, left_of, read_count};
+ghost use Rattle.nf_io.specs.Memory.{is_next_listed, left_of, mem_shelf_tells, read_count};
 
 use crate::call_list::CallList;
 use crate::counted::Calls;
@@ -65,15 +65,7 @@ impl MemShelf {
 }
 
 impl Shelf for MemShelf {
-    ghost files = { λ s. Some s.files };
-
-    ghost asked = { λ s. Some s.asked };
-
-    ghost rest = { λ s. s.rest };
-
-    ghost failed = { λ s. s.failed };
-
-    ghost faults = { λ s. s.faults };
+    ghost tells = { mem_shelf_tells };
 
     /// Makes the file of this name the current one.
     ///

@@ -3,7 +3,7 @@ ghost use Rattle.std.specs.Prelude.{◌≡◌, ◌<◌, ◌≤◌, ◌&&◌, ◌
 ghost use Rattle.std.specs.Option.{option_copied};
 ghost use Rattle.nf_io.specs.Bytes.{Took};
 ghost use Rattle.nf_io.specs.Causes.{HasCause, faults_after, risen};
-ghost use Rattle.nf_io.specs.Memory.{is_next_listed, told_after};
+ghost use Rattle.nf_io.specs.Memory.{is_next_listed, mem_sink_tells, told_after};
 
 use crate::call_list::CallList;
 use crate::counted::Calls;
@@ -70,9 +70,7 @@ impl<'a> MemSink<'a> {
 }
 
 impl<'a> Sink for MemSink<'a> {
-    ghost taken = { λ s. s.taken };
-
-    ghost faults = { λ s. s.faults };
+    ghost tells = { mem_sink_tells };
 
     /// Takes the first bytes of the piece, as many as one call takes, and answers how many.
     ///

@@ -1,6 +1,7 @@
 //! The shelf of the real files and of standard input. It is the trusted edge.
 ghost use Rattle.std.specs.Prelude.{◌≡◌, ◌<◌, ◌≤◌, false, length, drop, None, IfOk, is_err};
 ghost use Rattle.nf_io.specs.Causes.{HasCause, faults_after};
+ghost use Rattle.nf_io.specs.Real.{real_shelf_tells};
 
 use crate::failure::Failed;
 use crate::shelves::Shelf;
@@ -99,15 +100,7 @@ impl<R: Files + Input> RealShelf<R> {
 const PIECE: usize = 8192;
 
 impl<R: Files + Input> Shelf for RealShelf<R> {
-    ghost files = { λ _. None };
-
-    ghost asked = { λ _. None };
-
-    ghost rest = { λ _. None };
-
-    ghost failed = { λ s. s.failed };
-
-    ghost faults = { λ s. s.faults };
+    ghost tells = { real_shelf_tells };
 
     /// Opens the file of this name, or standard input.
     ///

@@ -1,6 +1,7 @@
 //! The sink of a real writer. It is the trusted edge.
 ghost use Rattle.std.specs.Prelude.{◌≡◌, ◌<◌, ◌≤◌, [], length, take, None, Ok, IfOk, OnErr};
 ghost use Rattle.nf_io.specs.Causes.{HasCause, faults_after};
+ghost use Rattle.nf_io.specs.Real.{real_sink_tells};
 
 use crate::failure::Failed;
 use crate::sinks::Sink;
@@ -46,9 +47,7 @@ fn write_some<W: Write>(inner: &mut W, bytes: &[u8]) -> io::Result<usize>
 }
 
 impl<W: Write> Sink for RealSink<W> {
-    ghost taken = { λ _. None };
-
-    ghost faults = { λ s. s };
+    ghost tells = { real_sink_tells };
 
     /// Writes first bytes of the piece, at least one where it isn't empty, flushes, and answers
     /// how many bytes these are.

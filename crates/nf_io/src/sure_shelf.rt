@@ -2,7 +2,8 @@
 ghost use Rattle.std.specs.Prelude.{◌≡◌, ℕ, ◌<◌, ◌≤◌, List, [], length, take, drop, false, None, Some, IsOk, IfSome, IfOk, option_map, is_some, if◌then◌else◌, max, refl};
 ghost use Rattle.nf_io.specs.Files.{Files, file_of, asked_of, bytes_of};
 ghost use Rattle.nf_io.specs.Bytes.{Gives};
-ghost use Rattle.nf_io.specs.Memory.{entry_at, left_of, read_count};
+ghost use Rattle.nf_io.specs.Memory.{left_of, read_count, sure_shelf_tells};
+ghost use Rattle.nf_io.specs.inner.Places.{entry_at};
 
 use crate::copied::copy_some;
 use crate::failure::Failed;
@@ -25,7 +26,8 @@ pub struct SureShelf {
 
 impl Model for SureShelf {
     ghost use Rattle.std.specs.Prelude.{option_map, drop};
-    ghost use Rattle.nf_io.specs.Memory.{SureShelfState, IsReading, entry_at};
+    ghost use Rattle.nf_io.specs.Memory.{SureShelfState};
+    ghost use Rattle.nf_io.specs.inner.Places.{IsReading, entry_at};
 
     ghost Value = { SureShelfState };
 
@@ -100,15 +102,7 @@ impl SureShelf {
 }
 
 impl Shelf for SureShelf {
-    ghost files = { λ s. Some s.files };
-
-    ghost asked = { λ s. Some s.asked };
-
-    ghost rest = { λ s. s.rest };
-
-    ghost failed = { λ _. false };
-
-    ghost faults = { λ _. 0 };
+    ghost tells = { sure_shelf_tells };
 
     /// Makes the file of this name the current one, and an empty file where there is none. Never
     /// fails.

@@ -3,7 +3,7 @@ ghost use Rattle.std.specs.Prelude.{◌≡◌, ◌<◌, ◌≤◌, [], length, t
 ghost use Rattle.std.specs.Option.{option_copied};
 ghost use Rattle.nf_io.specs.Bytes.{Took};
 ghost use Rattle.nf_io.specs.Causes.{HasCause};
-ghost use Rattle.nf_io.specs.Memory.{told_after};
+ghost use Rattle.nf_io.specs.Memory.{sure_sink_tells, told_after};
 
 use crate::copied::copy_after;
 use crate::failure::Failed;
@@ -75,9 +75,7 @@ impl<'a> SureSink<'a> {
 }
 
 impl<'a> Sink for SureSink<'a> {
-    ghost taken = { λ s. s.taken };
-
-    ghost faults = { λ _. 0 };
+    ghost tells = { sure_sink_tells };
 
     /// Takes the whole piece. Never fails.
     fn write(&mut self, bytes: &[u8]) -> Result<usize, Failed>

@@ -1,18 +1,14 @@
 -- Classes of bytes.
 use Rattle.std.specs.Prelude.{ℕ, Bool, ◌||◌, ◌==◌, not}
-use Rattle.std.specs.Char.{is_ascii_digit, is_ascii_alphabetic}
+use Rattle.nf_core.specs.Identifiers.{is_letter, is_digit}
 
 -- space, tab, CR and LF separate tokens
 abbrev pub is_blank : ℕ → Bool
 is_blank b = b == 32 || b == 9 || b == 13 || b == 10
 
--- an identifier begins with a letter or `_`
-abbrev pub is_initial : ℕ → Bool
-is_initial b = is_ascii_alphabetic b || b == 95
-
--- and goes on with letters, `_` and digits
+-- a name goes on with letters, `_` and digits
 abbrev pub is_inner : ℕ → Bool
-is_inner b = is_initial b || is_ascii_digit b
+is_inner b = is_letter b || is_digit b
 
 -- a byte is `"`
 abbrev pub is_quote : ℕ → Bool

@@ -3,4 +3,4 @@ pub mod Words
 pub mod Faults
 pub mod Division
 pub mod Layout
-pub mod Pieces
+pub mod inner

@@ -1,17 +1,11 @@
 -- The words of a source: separators, comments and tokens.
-use Rattle.std.specs.Prelude.{◌≡◌, ℕ, ◌+◌, ◌<◌, ◌≤◌, Bool, ◌&&◌, ◌||◌, List, [], ◌∷◌, length, drop, take, nat_eq, ◌==◌, if◌then◌else◌, Option, Some, None, bytes_eq, codes, slice_index, option_map}
+use Rattle.std.specs.Prelude.{◌≡◌, ℕ, ◌+◌, ◌<◌, ◌≤◌, Bool, ◌&&◌, ◌||◌, List, [], ◌∷◌, ◌++◌, length, drop, take, nat_eq, ◌==◌, if◌then◌else◌, Option, Some, None, bytes_eq, codes, slice_index, option_map}
 use Rattle.std.specs.List.{list_all, list_any, starts_with, position_or_len}
 use Rattle.std.specs.Char.{is_ascii_digit}
 use Rattle.nf_lex.specs.declared.token.TokenKind.{TokenKind}
 use Rattle.nf_lex.specs.declared.token.TokenKind.TheVariants.{Ident, Keyword, Number, Text, Mark}
-use Rattle.nf_lex.specs.Bytes.{is_blank, is_initial, is_inner, is_quote, is_in_line}
-
--- the keywords
-abbrev pub keywords : List (List ℕ)
-keywords =
-    codes "module" ∷ codes "import" ∷ codes "where" ∷ codes "map" ∷ codes "begin" ∷ codes "end" ∷ codes "unless"
-    ∷ codes "before" ∷ codes "meet" ∷ codes "during" ∷ codes "coincide" ∷ codes "start" ∷ codes "finish" ∷ codes "overlap" ∷ codes "slice"
-    ∷ codes "after" ∷ codes "follow" ∷ codes "contain" ∷ codes "true" ∷ codes "false" ∷ []
+use Rattle.nf_core.specs.Identifiers.{has_name_form, keywords}
+use Rattle.nf_lex.specs.Bytes.{is_blank, is_quote, is_in_line}
 
 -- the marks of two bytes, and the bytes that are marks alone
 abbrev pub long_marks : List (List ℕ)
@@ -22,11 +16,7 @@ short_marks = codes "=<>!&|+-*/%(){},;.:"
 
 -- a word is one of a list
 abbrev pub is_among : List (List ℕ) → List ℕ → Bool
-is_among table word = list_any (bytes_eq word) table
-
--- identifiers and keywords have the form of names: an initial, then initials and digits
-abbrev pub is_name : List ℕ → Bool
-is_name word = is_initial (slice_index word 0) && list_all is_inner word
+is_among table word = list_any (λ entry. bytes_eq entry word) table
 
 -- a number is one or more digits
 abbrev pub is_number : List ℕ → Bool
@@ -36,18 +26,22 @@ is_number word = is_ascii_digit (slice_index word 0) && list_all is_ascii_digit 
 abbrev pub is_text : List ℕ → Bool
 is_text word = is_quote (slice_index word 0) && position_or_len is_quote (drop 1 word) + 2 == length word
 
+-- a text is written between `"`
+abbrev pub quoted : List ℕ → List ℕ
+quoted text = 34 ∷ text ++ 34 ∷ []
+
 -- a mark is one of the marks
 abbrev pub is_mark : List ℕ → Bool
 is_mark word = is_among long_marks word || (length word == 1 && list_any (λ mark. mark == slice_index word 0) short_marks)
 
--- a name is a keyword where it is one of them, else an identifier
+-- identifiers and keywords have the form of names; a name is a keyword where it is one of them, else an identifier
 abbrev pub name_kind : List ℕ → TokenKind
 name_kind name = if is_among keywords name then Keyword else Ident
 
 -- the kind of token that a word is, if it is one
 unfoldable pub kind_of : List ℕ → Option TokenKind
 kind_of word =
-    if is_name word then Some (name_kind word)
+    if has_name_form word then Some (name_kind word)
     else (if is_number word then Some Number
     else (if is_text word then Some Text
     else (if is_mark word then Some Mark

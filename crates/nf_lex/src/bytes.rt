@@ -3,7 +3,8 @@
 ghost use Rattle.std.specs.Prelude.{◌≡◌, ◌≤◌, map, length};
 ghost use Rattle.std.specs.Char.{is_ascii_digit};
 ghost use Rattle.std.specs.List.{prefix_len, position_or_len};
-ghost use Rattle.nf_lex.specs.Bytes.{is_blank, is_initial, is_inner, is_in_line, is_quote};
+ghost use Rattle.nf_core.specs.Identifiers.{is_letter};
+ghost use Rattle.nf_lex.specs.Bytes.{is_blank, is_inner, is_in_line, is_quote};
 ghost use Rattle.nf_lex.specs.Words.{is_among};
 
 /// Whether the byte is space, tab, CR or LF.
@@ -13,21 +14,21 @@ pub(crate) fn is_blank(byte: u8) -> bool
     byte == b' ' || byte == b'\t' || byte == b'\r' || byte == b'\n'
 }
 
-/// Whether an identifier may begin with the byte.
-pub(crate) fn is_initial(byte: u8) -> bool
-    ensures { result ≡ is_initial byte }
+/// Whether the byte is a letter or `_`, with which a name may begin.
+pub(crate) fn is_letter(byte: u8) -> bool
+    ensures { result ≡ is_letter byte }
 {
     byte.is_ascii_alphabetic() || byte == b'_'
 }
 
-/// Whether an identifier may go on with the byte.
+/// Whether a name may go on with the byte.
 fn is_inner(byte: u8) -> bool
     ensures { result ≡ is_inner byte }
 {
-    is_initial(byte) || byte.is_ascii_digit()
+    is_letter(byte) || byte.is_ascii_digit()
 }
 
-/// How many bytes at the front an identifier may go on with.
+/// How many bytes at the front a name may go on with.
 pub(crate) fn name_len(bytes: &[u8]) -> usize
     ensures len { result ≡ prefix_len is_inner bytes.now }
     ensures within { result ≤ length bytes.now }
@@ -67,7 +68,7 @@ pub(crate) fn is_among(mut table: &[&[u8]], word: &[u8]) -> bool
     ensures { result ≡ is_among (map (λ entry. entry.now) table.entry.now) word.now }
 {
     'entries: while let [entry, rest @ ..] = table {
-        if word == *entry {
+        if *entry == word {
             return true;
         }
         table = rest;

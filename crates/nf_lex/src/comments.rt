@@ -2,7 +2,7 @@
 
 ghost use Rattle.std.specs.Prelude.{◌≡◌, ◌≤◌, length, true};
 ghost use Rattle.nf_lex.specs.Words.{opens_line, opens_block, before_close};
-ghost use Rattle.nf_lex.specs.Pieces.{FindsGap};
+ghost use Rattle.nf_lex.specs.inner.Pieces.{FindsGap};
 
 /// Whether the bytes begin with `//` or `--`.
 pub(crate) fn opens_line(bytes: &[u8]) -> bool
@@ -19,7 +19,7 @@ pub(crate) fn opens_block(bytes: &[u8]) -> bool
 }
 
 /// How many bytes stand before the first `*/`, or all where there is none.
-#[tactic(auto, using(crate::proofs::Closes::close_more, crate::proofs::Closes::close_here))]
+#[tactic(auto, using(crate::proofs::CommentLemmas::close_more, crate::proofs::CommentLemmas::close_here))]
 pub(crate) fn before_close(bytes: &[u8]) -> usize
     ensures before { result ≡ before_close bytes.now }
     ensures within { result ≤ length bytes.now }
@@ -36,7 +36,7 @@ pub(crate) fn before_close(bytes: &[u8]) -> usize
 
 /// The length of the comment that opens with `/*` at the front of the bytes, or None exactly where it
 /// has no end.
-#[tactic(auto, using(crate::proofs::Places::block_long, crate::proofs::Places::block_word, crate::proofs::Places::block_none))]
+#[tactic(auto, using(crate::proofs::PlaceLemmas::block_long, crate::proofs::PlaceLemmas::block_word, crate::proofs::PlaceLemmas::block_none))]
 pub(crate) fn block_len(bytes: &[u8]) -> Option<usize>
     requires { opens_block bytes.now ≡ true }
     ensures { FindsGap bytes.now result }

@@ -1,4 +1,4 @@
-//! The faults of a source.
+//! Why a source has no tokens.
 
 use nf_core::NoMemory;
 use thiserror::Error;

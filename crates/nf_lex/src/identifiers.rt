@@ -10,7 +10,7 @@ use crate::words::token_at;
 
 /// Whether a text is an identifier: a letter or `_`, then letters, digits and `_`, and no keyword
 /// (`is_identifier` of nf_core's specs/Identifiers). Takes no memory.
-#[tactic(auto, using(crate::proofs::Whole::is_ident, crate::proofs::Whole::no_ident))]
+#[tactic(auto, using(crate::proofs::WholeTextLemmas::is_ident, crate::proofs::WholeTextLemmas::no_ident))]
 pub fn is_identifier(text: &[u8]) -> bool
     ensures { result ≡ is_identifier text.now }
 {
@@ -20,7 +20,7 @@ pub fn is_identifier(text: &[u8]) -> bool
 
 /// The kind of token that the whole text is, if it is one: that of the longest token at its front,
 /// where that token is as long as the text.
-#[tactic(auto, using(crate::proofs::Whole::kind_whole, crate::proofs::Whole::kind_longer, crate::proofs::Whole::kind_none, crate::proofs::Whole::kind_empty))]
+#[tactic(auto, using(crate::proofs::WholeTextLemmas::kind_whole, crate::proofs::WholeTextLemmas::kind_longer, crate::proofs::WholeTextLemmas::kind_none, crate::proofs::WholeTextLemmas::kind_empty))]
 fn whole_kind(text: &[u8]) -> Option<TokenKind>
     ensures { result ≡ kind_of text.now }
 {

@@ -7,7 +7,7 @@ ghost use Rattle.nf_lex.specs.Layout.{IsTokenOf, AreLaidOut};
 
 use crate::fault::LexFault;
 use crate::piece::Piece;
-use crate::pieces::piece_at;
+use crate::scanning::piece_at;
 use crate::token::Token;
 use crate::token_list::Tokens;
 use nf_text::Span;
@@ -19,11 +19,13 @@ use std::alloc::Global;
 /// rule is `Divides` in specs/Division.antt, and what the tokens are in the source `IsTokenOf` and
 /// `AreLaidOut` in specs/Layout.antt: the text of a token is the slice at its span, spans are in
 /// order, and between them stand separators and comments.
-#[tactic(auto, using(crate::proofs::Reading::so_far_start, crate::proofs::Reading::so_far_gap, crate::proofs::Reading::so_far_token, crate::proofs::Reading::so_far_end, crate::proofs::Reading::so_far_fault))]
+#[tactic(auto, using(crate::proofs::ReaderLemmas::so_far_start, crate::proofs::ReaderLemmas::so_far_gap, crate::proofs::ReaderLemmas::so_far_token, crate::proofs::ReaderLemmas::so_far_end, crate::proofs::ReaderLemmas::so_far_fault))]
 pub fn tokens(alloc: Global, source: &[u8]) -> Result<Tokens, LexFault>
     ensures tokens { IfOk result (λ found. Divides source.now 0 (Ok found)) }
-    ensures fault { IfErr result (λ fault. (fault ≡ variant.NoMemory) ⊎ Divides source.now 0 (Err fault)) }
-    ensures exact { (answer : Answer) → Divides source.now 0 answer → (result ≡ answer) ⊎ (result ≡ Err variant.NoMemory) }
+    ensures fault { IfErr result (λ fault.
+        (fault ≡ variant.NoMemory) ⊎ Divides source.now 0 (Err fault)) }
+    ensures exact { (answer : Answer) → Divides source.now 0 answer
+        → (result ≡ answer) ⊎ (result ≡ Err variant.NoMemory) }
     ensures each { IfOk result (All (IsTokenOf source.now)) }
     ensures laid_out { IfOk result (λ found. AreLaidOut source.now 0 found) }
 {

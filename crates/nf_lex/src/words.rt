@@ -1,12 +1,13 @@
-//! Tokens at the front of bytes.
+//! The longest token at the front of bytes, and the tables of keywords and marks.
 
 ghost use Rattle.std.specs.Prelude.{◌≡◌, ◌<◌, length, slice_index, true, false};
 ghost use Rattle.std.specs.Char.{is_ascii_digit};
-ghost use Rattle.nf_lex.specs.Bytes.{is_initial, is_quote};
+ghost use Rattle.nf_core.specs.Identifiers.{is_letter};
+ghost use Rattle.nf_lex.specs.Bytes.{is_quote};
 ghost use Rattle.nf_lex.specs.Words.{name_kind};
-ghost use Rattle.nf_lex.specs.Pieces.{FindsToken};
+ghost use Rattle.nf_lex.specs.inner.Pieces.{FindsToken};
 
-use crate::bytes::{digits_len, is_among, is_initial, name_len, text_len};
+use crate::bytes::{digits_len, is_among, is_letter, name_len, text_len};
 use crate::token::TokenKind;
 
 const KEYWORDS: [&[u8]; 20] = [
@@ -38,13 +39,13 @@ const SHORT_MARKS: &[u8] = b"=<>!&|+-*/%(){},;.:";
 
 /// The kind and the length of the longest token at the front of the bytes, which aren't empty, or
 /// None exactly where no front of them is a token.
-#[tactic(auto, using(crate::proofs::Longest::name_longest, crate::proofs::Longest::number_longest))]
+#[tactic(auto, using(crate::proofs::LongestTokenLemmas::name_longest, crate::proofs::LongestTokenLemmas::number_longest))]
 pub(crate) fn token_at(bytes: &[u8]) -> Option<(TokenKind, usize)>
     requires { 0 < length bytes.now }
     ensures { FindsToken bytes.now result }
 {
     let first = bytes[0];
-    if is_initial(first) {
+    if is_letter(first) {
         let length = name_len(bytes);
         return Some((name_kind(&bytes[..length]), length));
     }
@@ -57,7 +58,8 @@ pub(crate) fn token_at(bytes: &[u8]) -> Option<(TokenKind, usize)>
     mark_at(bytes)
 }
 
-/// Whether a name is a keyword or an identifier.
+/// Whether a name is a keyword or an identifier: the keywords are those of nf_core's specs/Identifiers.
+#[tactic(auto, unfolding(nf_core::specs::Identifiers::keywords))]
 fn name_kind(name: &[u8]) -> TokenKind
     ensures { result ≡ name_kind name.now }
 {
@@ -69,7 +71,7 @@ fn name_kind(name: &[u8]) -> TokenKind
 }
 
 /// The text that opens with the first byte, which is `"`, up to the next `"`.
-#[tactic(auto, using(crate::proofs::Longest::text_longest, crate::proofs::Longest::text_none))]
+#[tactic(auto, using(crate::proofs::LongestTokenLemmas::text_longest, crate::proofs::LongestTokenLemmas::text_none))]
 fn text_at(bytes: &[u8]) -> Option<(TokenKind, usize)>
     requires { is_quote (slice_index bytes.now 0) ≡ true }
     ensures { FindsToken bytes.now result }
@@ -85,10 +87,10 @@ fn text_at(bytes: &[u8]) -> Option<(TokenKind, usize)>
 
 /// The mark at the front of the bytes, of two bytes or of one. They begin with no byte of another kind
 /// of token.
-#[tactic(auto, using(crate::proofs::Longest::mark_two, crate::proofs::Longest::mark_one, crate::proofs::Longest::mark_none))]
+#[tactic(auto, using(crate::proofs::LongestTokenLemmas::mark_two, crate::proofs::LongestTokenLemmas::mark_one, crate::proofs::LongestTokenLemmas::mark_none))]
 fn mark_at(bytes: &[u8]) -> Option<(TokenKind, usize)>
     requires some { 0 < length bytes.now }
-    requires no_name { is_initial (slice_index bytes.now 0) ≡ false }
+    requires no_name { is_letter (slice_index bytes.now 0) ≡ false }
     requires no_number { is_ascii_digit (slice_index bytes.now 0) ≡ false }
     requires no_text { is_quote (slice_index bytes.now 0) ≡ false }
     ensures { FindsToken bytes.now result }

@@ -3,8 +3,8 @@ use Rattle.std.specs.Prelude.{◌≡◌, ℕ, List, Result, Ok, Err}
 use Rattle.std.specs.Option.{option_copied}
 use Rattle.nf_line.specs.Cutting.{Content, after_long, used_of, line_of, content_after}
 use Rattle.nf_line.specs.declared.taken.Taken.{Taken}
-use Rattle.nf_line.specs.declared.faults.CutFault.{CutFault}
-use Rattle.nf_line.specs.declared.faults.CutFault.TheVariants as fault
+use Rattle.nf_line.specs.declared.fault.CutFault.{CutFault}
+use Rattle.nf_line.specs.declared.fault.CutFault.TheVariants as fault
 
 -- a piece was taken: the bytes up to its first LF were used, or all, and the line that it ended was handed out
 pub record Takes (before : Content) (piece : List ℕ) (taken : Taken) : Type 0 where

@@ -2,11 +2,10 @@ pub mod Lines
 pub mod Line
 pub mod Rows
 pub mod Trace
+pub mod ProperEvents
 pub mod Cutting
 pub mod Raw
 pub mod Readings
 pub mod Calls
 pub mod PairTexts
-pub mod Plain
-pub mod Stages
-pub mod FieldTexts
+pub mod inner

@@ -1,5 +1,5 @@
 -- One line of a trace: it is empty, accepted, or has a fault of the table.
-use Rattle.std.specs.Prelude.{ℕ, ◌==◌, Bool, not, ◌&&◌, ◌||◌, ℤ, pos, nat_lt, List, [], ◌∷◌, length, map, slice_index_or, Option, Some, None, if◌then◌else◌}
+use Rattle.std.specs.Prelude.{ℕ, ◌==◌, Bool, not, ◌&&◌, ℤ, pos, List, [], ◌∷◌, length, map, Option, Some, None, if◌then◌else◌}
 use Rattle.std.specs.List.{list_any, zip}
 use Rattle.std.specs.Str.{is_utf8}
 use Rattle.std.specs.Str.Parse.{digits_value}
@@ -8,7 +8,7 @@ use Rattle.nf_core.specs.declared.values.Value.TheVariants as variant
 use Rattle.nf_text.specs.Fields.{fields_of}
 use Rattle.nf_text.specs.Time.{is_time}
 use Rattle.nf_text.specs.Value.{Spelling, Truth, Whole, Words, spelling_of}
-use Rattle.nf_line.specs.Lines.{line_limit, without_return}
+use Rattle.nf_line.specs.Lines.{is_empty, is_too_long, without_return}
 
 -- why a line is refused by its bytes alone, in the order of the table
 pub data Fault : Type 0 where
@@ -19,34 +19,27 @@ pub data Fault : Type 0 where
   Key : Fault
   Counts : Fault
 
--- a text without bytes
-abbrev pub is_empty : List ℕ → Bool
-is_empty text = length text == 0
-
 -- a line is text where it is UTF-8 and holds no CR
 abbrev pub is_text : List ℕ → Bool
 is_text line = is_utf8 line && not (list_any (λ byte. byte == 13) line)
 
--- the field at a place, counted from 0; one that isn't there counts as empty
-abbrev pub field_at : ℕ → List (List ℕ) → List ℕ
-field_at place fields = slice_index_or fields place []
+-- the texts of what a line says: its name, its begin and its end, and the fields of its keys and of its values
+pub record Parts : Type 0 where
+  pub name : List ℕ
+  pub start : List ℕ
+  pub stop : List ℕ
+  pub keys : List ℕ
+  pub values : List ℕ
 
--- a line has 2 fields, a name and a time, or 4, with keys and values besides
-abbrev pub has_form : List (List ℕ) → Bool
-has_form fields = length fields == 2 || length fields == 4
+-- the parts of a line that begins and ends at one time
+abbrev pub at_time : (name time keys values : List ℕ) → Parts
+at_time name time keys values = record { name = name; start = time; stop = time; keys = keys; values = values }
 
--- what the fields are, by their places
-abbrev pub name_field : List (List ℕ) → List ℕ
-name_field = field_at 0
-
-abbrev pub time_field : List (List ℕ) → List ℕ
-time_field = field_at 1
-
-abbrev pub keys_field : List (List ℕ) → List ℕ
-keys_field = field_at 2
-
-abbrev pub values_field : List (List ℕ) → List ℕ
-values_field = field_at 3
+-- the table of forms: a line of two fields has a name and a time, and one of four has keys and values besides. A line of any other number of fields is in no form
+abbrev pub parts_of : List (List ℕ) → Option Parts
+parts_of (name ∷ time ∷ []) = Some (at_time name time [] [])
+parts_of (name ∷ time ∷ keys ∷ values ∷ []) = Some (at_time name time keys values)
+parts_of fields = None
 
 -- the keys of a keys' field stand between `;`; an empty field has none
 abbrev pub keys_in : List ℕ → List (List ℕ)
@@ -70,19 +63,19 @@ value_of (Words text) = variant.Text text
 abbrev pub spelled : List ℕ × List ℕ → List ℕ × value.Value
 spelled pair = (pair.0, value_of (spelling_of pair.1))
 
--- the table of a line without its CR, from the second row on: each fault, and whether the line has it
-abbrev pub faults_within : List ℕ → List (Fault × Bool)
-faults_within line = let fields = fields_of 124 line in
-    (NotText, not (is_text line))
-    ∷ (Fields, not (has_form fields) || is_empty (name_field fields))
-    ∷ (Time, not (is_time (time_field fields)))
-    ∷ (Key, list_any is_empty (keys_in (keys_field fields)))
-    ∷ (Counts, not (length (values_in (keys_field fields) (values_field fields)) == length (keys_in (keys_field fields))))
-    ∷ []
+-- the keys and values of a line, as they are written, in their order; a line in no form has none
+abbrev pub texts_of : Option Parts → List (List ℕ × List ℕ)
+texts_of None = []
+texts_of (Some parts) = texts_in parts.keys parts.values
 
--- the table of a whole piece: it is too long where it has more than 65,536 bytes before its LF, a CR too
-abbrev pub faults_of : List ℕ → List (Fault × Bool)
-faults_of piece = (Long, nat_lt line_limit (length piece)) ∷ faults_within (without_return piece)
+-- the table of a line in some form: each fault, and whether the line has it
+abbrev pub faults_in : Parts → List (Fault × Bool)
+faults_in parts =
+    (Fields, is_empty parts.name)
+    ∷ (Time, not (is_time parts.start && is_time parts.stop))
+    ∷ (Key, list_any is_empty (keys_in parts.keys))
+    ∷ (Counts, not (length (values_in parts.keys parts.values) == length (keys_in parts.keys)))
+    ∷ []
 
 -- the first fault of a table that the line has
 abbrev pub first_fault : List (Fault × Bool) → Option Fault
@@ -92,22 +85,31 @@ first_fault (row ∷ rows) = if row.1 then Some row.0 else first_fault rows
 -- what a line is
 pub data Line : Type 0 where
   Empty : Line
-  Accepted : (name : List ℕ) → (time : ℤ) → (pairs : List (List ℕ × value.Value)) → Line
+  Accepted : (name : List ℕ) → (start stop : ℤ) → (pairs : List (List ℕ × value.Value)) → Line
   Faulty : Fault → Line
 
--- the fields of an accepted line: its name, the decimal value of its time, and its keys with their values
-abbrev pub accepted : List (List ℕ) → Line
-accepted fields = Accepted (name_field fields) (pos (digits_value 10 (time_field fields))) (map spelled (texts_in (keys_field fields) (values_field fields)))
+-- the time that a text of digits spells: its decimal value
+abbrev pub time_in : List ℕ → ℤ
+time_in text = pos (digits_value 10 text)
 
--- a line by its first fault, where it has one
-abbrev pub judged : List ℕ → Option Fault → Line
-judged line None = accepted (fields_of 124 line)
-judged line (Some fault) = Faulty fault
+-- what an accepted line says: its name, its begin and its end, and its keys with their values
+abbrev pub accepted : Parts → Line
+accepted parts = Accepted parts.name (time_in parts.start) (time_in parts.stop) (map spelled (texts_in parts.keys parts.values))
 
--- a line of at most 65,536 bytes, without its CR: it is empty, or has the first fault of the table, or is accepted
+-- a line in some form by its first fault, where it has one
+abbrev pub judged : Parts → Option Fault → Line
+judged parts None = accepted parts
+judged parts (Some fault) = Faulty fault
+
+-- a line that is text, by its parts: where it is in no form its fault is Fields, and else it has the first fault of the table, or is accepted
+abbrev pub formed : Option Parts → Line
+formed None = Faulty Fields
+formed (Some parts) = judged parts (first_fault (faults_in parts))
+
+-- a line of at most 65,536 bytes, without its CR: it is empty, or isn't text, or is what its parts make it
 unfoldable pub line_within : List ℕ → Line
-line_within line = if is_empty line then Empty else judged line (first_fault (faults_within line))
+line_within line = if is_empty line then Empty else if is_text line then formed (parts_of (fields_of 124 line)) else Faulty NotText
 
--- a line by its whole piece, all bytes before its LF: one CR at its end is dropped; then it is empty, or has the first fault of the table, or is accepted
+-- a line by its whole piece, all bytes before its LF: it is too long where it has more than 65,536 bytes, a CR at its end too; else it is what it is without one CR at its end
 unfoldable pub line : List ℕ → Line
-line piece = if is_empty (without_return piece) then Empty else judged (without_return piece) (first_fault (faults_of piece))
+line piece = if is_too_long piece then Faulty Long else line_within (without_return piece)

@@ -1,18 +1,19 @@
 //! The fields of a line, and their tests.
 
-ghost use Rattle.std.specs.Prelude.{◌≡◌, ◌==◌, ◌||◌, ℕ, not, length, pos, count_by, IfOk, IsUtf8};
+ghost use Rattle.std.specs.Prelude.{◌≡◌, ◌==◌, ℕ, not, length, count_by, Some, IfOk, IsUtf8};
 ghost use Rattle.std.specs.List.{list_any};
-ghost use Rattle.std.specs.Str.Parse.{digits_value};
 ghost use Rattle.nf_text.specs.Fields.{fields_of};
 ghost use Rattle.nf_text.specs.Time.{is_time};
-ghost use Rattle.nf_line.specs.Line.{is_text, is_empty, has_form, name_field, time_field, keys_field, values_field, keys_in, values_in};
-ghost use Rattle.nf_line.specs.Stages.{Tests};
-ghost use Rattle.nf_line.specs.FieldTexts.{AreFieldsOf};
+ghost use Rattle.nf_line.specs.Lines.{is_empty};
+ghost use Rattle.nf_line.specs.Line.{is_text, parts_of, keys_in, values_in, time_in};
+ghost use Rattle.nf_line.specs.inner.Stages.{Tests};
+ghost use Rattle.nf_line.specs.inner.FieldTexts.{parts_in, lacks_fields};
 
-use crate::faults::LineFault;
+use crate::fault::LineFault;
 use nf_text::{read_time, split};
 
-/// The fields of a line by their meaning. A line of two fields has no keys and no values.
+/// The fields of a line by their meaning: it begins and ends at its time. A line of two fields has no
+/// keys and no values.
 #[derive(Debug, Clone, Copy)]
 pub(crate) struct Fields<'a> {
     pub(crate) name: &'a str,
@@ -22,7 +23,7 @@ pub(crate) struct Fields<'a> {
 }
 
 /// The line as text: it is UTF-8 and holds no CR.
-#[tactic(auto, using(crate::proofs::Stages::text_tested, crate::proofs::Stages::no_text_tested))]
+#[tactic(auto, using(crate::proofs::FieldTestLemmas::text_tested, crate::proofs::FieldTestLemmas::no_text_tested))]
 pub(crate) fn read_text(line: &[u8]) -> Result<&str, LineFault>
     ensures test { Tests LineFault.NotText (not (is_text line.now)) result }
     ensures text { IfOk result (λ text. text.now ≡ line.now) }
@@ -36,10 +37,13 @@ pub(crate) fn read_text(line: &[u8]) -> Result<&str, LineFault>
     }
 }
 
-/// The fields of a line: there are two or four of them, and the name isn't empty.
+/// The fields of a line (`parts_of` of specs/Line): there are two or four of them, and the name isn't
+/// empty.
 pub(crate) fn read_fields(text: &str) -> Result<Fields<'_>, LineFault>
-    ensures test { Tests LineFault.Fields (not (has_form (fields_of 124 text.now)) || is_empty (name_field (fields_of 124 text.now))) result }
-    ensures fields { IfOk result (AreFieldsOf (fields_of 124 text.now)) }
+    ensures test { Tests LineFault.Fields
+        (lacks_fields (parts_of (fields_of 124 text.now))) result }
+    ensures parts { IfOk result (λ fields.
+        parts_of (fields_of 124 text.now) ≡ Some (parts_in fields)) }
 {
     let mut fields = split(text, b'|');
     let first = fields.next();
@@ -67,10 +71,10 @@ pub(crate) fn read_fields(text: &str) -> Result<Fields<'_>, LineFault>
 }
 
 /// The time of a line.
-#[tactic(auto, using(crate::proofs::Stages::time_tested, crate::proofs::Stages::time_read))]
+#[tactic(auto, using(crate::proofs::FieldTestLemmas::time_tested, crate::proofs::FieldTestLemmas::time_read))]
 pub(crate) fn read_line_time(text: &str) -> Result<i64, LineFault>
     ensures test { Tests LineFault.Time (not (is_time text.now)) result }
-    ensures time { IfOk result (λ time. time ≡ pos (digits_value 10 text.now)) }
+    ensures time { IfOk result (λ time. time ≡ time_in text.now) }
 {
     read_time(text).ok_or(LineFault::Time)
 }
@@ -87,7 +91,8 @@ pub(crate) fn test_keys(keys: &str) -> Result<(), LineFault>
 
 /// Tests that there are as many values as keys.
 pub(crate) fn test_counts(keys: &str, values: &str) -> Result<(), LineFault>
-    ensures { Tests LineFault.Counts (not (length (values_in keys.now values.now) == length (keys_in keys.now))) result }
+    ensures { Tests LineFault.Counts
+        (not (length (values_in keys.now values.now) == length (keys_in keys.now))) result }
 {
     if are_as_many(keys, values) {
         Ok(())
@@ -109,7 +114,7 @@ fn has_empty_part(text: &str) -> bool
 }
 
 /// Whether there are as many values as keys.
-#[tactic(auto, using(crate::proofs::Stages::no_keys, crate::proofs::Stages::some_keys))]
+#[tactic(auto, using(crate::proofs::FieldTestLemmas::no_keys, crate::proofs::FieldTestLemmas::some_keys))]
 fn are_as_many(keys: &str, values: &str) -> bool
     ensures { result ≡ (length (values_in keys.now values.now) == length (keys_in keys.now)) }
 {

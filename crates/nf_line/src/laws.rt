@@ -1,7 +1,7 @@
 //! What holds of the definitions themselves. Each function does nothing, and its contract is the law.
 
 ghost use Rattle.std.specs.Prelude.{◌≡◌, ◌≢◌, ℕ, ◌<◌, ◌≤◌, false, true, List, [], ◌∷◌, ◌++◌, length, map, take, fold, option_to_list};
-ghost use Rattle.nf_line.specs.Lines.{cut, cut_off, line_limit, without_return, with_long_last};
+ghost use Rattle.nf_line.specs.Lines.{cut, cut_off, line_limit, without_return};
 ghost use Rattle.nf_line.specs.Line.{Line, line, line_within, Faulty, Long};
 ghost use Rattle.nf_line.specs.Cutting.{Content, Run, start, after_call, is_long, used_of, line_of, content_after, last_line, IsContent, HasCut, IsLongBehind};
 ghost use Rattle.nf_line.specs.Trace.{Event, Refusal, Done, Refused, TooLong, trace, trace_so_far, trace_limit};
@@ -14,35 +14,59 @@ ghost use Rattle.nf_line.specs.Trace.{Event, Refusal, Done, Refused, TooLong, tr
 /// bytes are those that were handed out and then the one that is kept.
 pub fn lines_are_those_of_the_cut()
     ensures start { HasCut [] [] [] }
-    ensures step { (bytes : List ℕ) (lines : List (List ℕ)) (content : Content) (piece : List ℕ) → HasCut bytes lines content.kept → is_long content piece ≡ false → HasCut (bytes ++ take (used_of piece) piece) (lines ++ option_to_list (line_of content piece)) (content_after content piece).kept }
-    ensures content { (content : Content) (piece : List ℕ) → IsContent content → is_long content piece ≡ false → IsContent (content_after content piece) }
-    ensures whole { (pieces : List (List ℕ)) → let run = fold after_call start pieces in run.content.was_long ≡ false → HasCut run.bytes run.lines run.content.kept }
-    ensures last { (bytes : List ℕ) (lines : List (List ℕ)) (kept : List ℕ) → HasCut bytes lines kept → map without_return (cut bytes) ≡ lines ++ option_to_list (last_line kept) }
+    ensures step { (bytes : List ℕ) (lines : List (List ℕ)) (content : Content) (piece : List ℕ)
+        → HasCut bytes lines content.kept → is_long content piece ≡ false
+        → HasCut (bytes ++ take (used_of piece) piece)
+        (lines ++ option_to_list (line_of content piece)) (content_after content piece).kept }
+    ensures content { (content : Content) (piece : List ℕ)
+        → IsContent content → is_long content piece ≡ false
+        → IsContent (content_after content piece) }
+    ensures whole { (pieces : List (List ℕ)) → let run = fold after_call start pieces in
+        run.content.was_long ≡ false → HasCut run.bytes run.lines run.content.kept }
+    ensures last { (bytes : List ℕ) (lines : List (List ℕ)) (kept : List ℕ)
+        → HasCut bytes lines kept
+        → map without_return (cut bytes) ≡ lines ++ option_to_list (last_line kept) }
 {}
 
 /// A line that is handed out has the meaning of its whole piece in the cut, and so has the last one.
 /// A piece that is longer than a line may be is `Long`.
 pub fn lines_mean_their_pieces()
-    ensures within { (piece : List ℕ) → length piece ≤ line_limit → line piece ≡ line_within (without_return piece) }
+    ensures within { (piece : List ℕ) → length piece ≤ line_limit
+        → line piece ≡ line_within (without_return piece) }
     ensures long { (piece : List ℕ) → line_limit < length piece → line piece ≡ Faulty Long }
-    ensures all { (bytes : List ℕ) (lines : List (List ℕ)) (kept : List ℕ) → HasCut bytes lines kept → length kept ≤ line_limit → map line (cut bytes) ≡ map line_within (lines ++ option_to_list (last_line kept)) }
-    ensures broken_off { (bytes : List ℕ) (lines : List (List ℕ)) (kept : List ℕ) → HasCut bytes lines kept → length kept ≤ line_limit → map line (cut_off bytes) ≡ map line_within lines }
+    ensures all { (bytes : List ℕ) (lines : List (List ℕ)) (kept : List ℕ)
+        → HasCut bytes lines kept → length kept ≤ line_limit
+        → map line (cut bytes) ≡ map line_within (lines ++ option_to_list (last_line kept)) }
+    ensures broken_off { (bytes : List ℕ) (lines : List (List ℕ)) (kept : List ℕ)
+        → HasCut bytes lines kept → length kept ≤ line_limit
+        → map line (cut_off bytes) ≡ map line_within lines }
 {}
 
 /// Where a piece makes a line too long, the piece of the cut that stands behind those of the lines
 /// handed out is longer than a line may be, whatever comes behind, also where the bytes are broken
 /// off there. So its line is `Long`, right behind those handed out.
 pub fn long_lines_are_long_pieces()
-    ensures whole { (bytes : List ℕ) (lines : List (List ℕ)) (content : Content) (piece more : List ℕ) (cut_so_far : HasCut bytes lines content.kept) → content.was_long ≡ false → is_long content piece ≡ true → IsLongBehind cut_so_far.pieces (cut (bytes ++ piece ++ more)) }
-    ensures broken_off { (bytes : List ℕ) (lines : List (List ℕ)) (content : Content) (piece more : List ℕ) (cut_so_far : HasCut bytes lines content.kept) → content.was_long ≡ false → is_long content piece ≡ true → IsLongBehind cut_so_far.pieces (cut_off (bytes ++ piece ++ more)) }
-    ensures meaning { (bytes : List ℕ) (lines : List (List ℕ)) (content : Content) (piece : List ℕ) → HasCut bytes lines content.kept → content.was_long ≡ false → is_long content piece ≡ true → (rest : List Line) × (map line (cut_off (bytes ++ piece)) ≡ map line_within lines ++ Faulty Long ∷ rest) }
+    ensures whole { (bytes : List ℕ) (lines : List (List ℕ)) (content : Content)
+        (piece more : List ℕ) (cut_so_far : HasCut bytes lines content.kept)
+        → content.was_long ≡ false → is_long content piece ≡ true
+        → IsLongBehind cut_so_far.pieces (cut (bytes ++ piece ++ more)) }
+    ensures broken_off { (bytes : List ℕ) (lines : List (List ℕ)) (content : Content)
+        (piece more : List ℕ) (cut_so_far : HasCut bytes lines content.kept)
+        → content.was_long ≡ false → is_long content piece ≡ true
+        → IsLongBehind cut_so_far.pieces (cut_off (bytes ++ piece ++ more)) }
+    ensures meaning { (bytes : List ℕ) (lines : List (List ℕ)) (content : Content) (piece : List ℕ)
+        → HasCut bytes lines content.kept
+        → content.was_long ≡ false → is_long content piece ≡ true → (rest : List Line)
+        × (map line (cut_off (bytes ++ piece)) ≡ map line_within lines ++ Faulty Long ∷ rest) }
 {}
 
 /// The lines that ended stay what they are, whatever comes behind, and so does one that is already too
 /// long.
 pub fn lines_that_ended_stay()
-    ensures whole { (bytes more : List ℕ) → (rest : List Line) × (map line (cut (bytes ++ more)) ≡ map line (cut_off bytes) ++ rest) }
-    ensures broken_off { (bytes more : List ℕ) → (rest : List Line) × (map line (cut_off (bytes ++ more)) ≡ map line (cut_off bytes) ++ rest) }
+    ensures whole { (bytes more : List ℕ) → (rest : List Line)
+        × (map line (cut (bytes ++ more)) ≡ map line (cut_off bytes) ++ rest) }
+    ensures broken_off { (bytes more : List ℕ) → (rest : List Line)
+        × (map line (cut_off (bytes ++ more)) ≡ map line (cut_off bytes) ++ rest) }
 {}
 
 /// What is known of a trace by its first bytes stays, whatever comes behind.
@@ -53,9 +77,17 @@ pub fn lines_that_ended_stay()
 /// refusal shows none in fewer bytes (`shorter`), and some bytes alone never show that a trace is too
 /// long (`never_too_long`).
 pub fn what_is_known_of_a_trace_stays()
-    ensures refused { (bytes more : List ℕ) (number : ℕ) (refusal : Refusal) → length bytes ≤ trace_limit → (trace_so_far bytes).ending ≡ Refused number refusal → trace (bytes ++ more) ≡ trace_so_far bytes }
-    ensures goes_on { (bytes more : List ℕ) → length bytes ≤ trace_limit → (trace_so_far bytes).ending ≡ Done → (events : List Event) × ((trace (bytes ++ more)).events ≡ (trace_so_far bytes).events ++ events) }
-    ensures at_limit { (bytes more : List ℕ) → length bytes ≡ trace_limit → (trace_so_far bytes).ending ≡ Done → trace (bytes ++ more) ≡ record { events = (trace_so_far bytes).events; ending = TooLong } }
-    ensures shorter { (bytes more : List ℕ) → (trace_so_far (bytes ++ more)).ending ≡ Done → (trace_so_far bytes).ending ≡ Done }
+    ensures refused { (bytes more : List ℕ) (number : ℕ) (refusal : Refusal)
+        → length bytes ≤ trace_limit → (trace_so_far bytes).ending ≡ Refused number refusal
+        → trace (bytes ++ more) ≡ trace_so_far bytes }
+    ensures goes_on { (bytes more : List ℕ)
+        → length bytes ≤ trace_limit → (trace_so_far bytes).ending ≡ Done → (events : List Event)
+        × ((trace (bytes ++ more)).events ≡ (trace_so_far bytes).events ++ events) }
+    ensures at_limit { (bytes more : List ℕ)
+        → length bytes ≡ trace_limit → (trace_so_far bytes).ending ≡ Done
+        → trace (bytes ++ more)
+        ≡ record { events = (trace_so_far bytes).events; ending = TooLong } }
+    ensures shorter { (bytes more : List ℕ)
+        → (trace_so_far (bytes ++ more)).ending ≡ Done → (trace_so_far bytes).ending ≡ Done }
     ensures never_too_long { (bytes : List ℕ) → (trace_so_far bytes).ending ≢ TooLong }
 {}

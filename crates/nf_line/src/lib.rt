@@ -8,9 +8,10 @@
 //! times and values, and on nf_core, which has plans and rows.
 #![tactic(auto)]
 
-mod faults;
+mod fault;
 mod fields;
 mod laws;
+mod limits;
 mod liner;
 mod pairs;
 mod pieces;
@@ -19,16 +20,14 @@ mod row_laws;
 mod rows;
 mod taken;
 
-pub use faults::{CutFault, LineFault, TraceFault};
+pub use fault::{CutFault, LineFault, TraceFault};
 pub use laws::{
     lines_are_those_of_the_cut, lines_mean_their_pieces, lines_that_ended_stay,
     long_lines_are_long_pieces, what_is_known_of_a_trace_stays,
 };
+pub use limits::{LINE_LIMIT, TRACE_LIMIT};
 pub use liner::Liner;
 pub use pairs::Pairs;
 pub use raw_line::RawLine;
 pub use row_laws::events_have_plain_values;
 pub use taken::Taken;
-
-#[cfg(test)]
-mod tests;

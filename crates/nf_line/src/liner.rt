@@ -9,14 +9,12 @@ ghost use Rattle.nf_line.specs.Cutting.{nothing_kept, has_feed, goes_beyond, is_
 ghost use Rattle.nf_line.specs.Calls.{Takes, content_left};
 ghost use Rattle.nf_line.specs.contracts.liner.Liner.{the_row};
 
-use crate::faults::CutFault;
+use crate::fault::CutFault;
+use crate::limits::LINE_LIMIT;
 use crate::pieces::{cut_piece, without_return};
 use crate::taken::Taken;
 use std::alloc::Global;
 use std::marker::Model;
-
-/// The most bytes of a line before its LF.
-const LONGEST: usize = 65536;
 
 /// Cuts bytes that come in pieces into lines. Contracts see what it keeps: the bytes since the last
 /// line, and whether a line was too long (`Content` of specs/Cutting).
@@ -71,7 +69,8 @@ impl Liner {
         ensures within { IfOk result (λ taken. taken.used ≤ length piece.now) }
         ensures line { IfOk result (λ taken. IfSome taken.line (λ line. CanBeRead line.now)) }
         ensures valid { IsContent self.old }
-        ensures* after { sem 𝓛 (Rests the_row self.entry (λ after. after ≡ content_left self.old piece.now result)) }
+        ensures* after { sem 𝓛 (Rests the_row self.entry (λ after.
+            after ≡ content_left self.old piece.now result)) }
     {
         let cut = cut_piece(piece);
         self.keep(cut.before)?;
@@ -93,7 +92,8 @@ impl Liner {
         ensures last { option_copied result ≡ last_line self.old.kept }
         ensures line { IfSome result (λ line. CanBeRead line.now) }
         ensures valid { IsContent self.old }
-        ensures* after { sem 𝓛 (Rests the_row self.entry (λ after. after ≡ record self.old { kept = [] })) }
+        ensures* after { sem 𝓛 (Rests the_row self.entry (λ after.
+            after ≡ record self.old { kept = [] })) }
     {
         if self.kept.is_empty() {
             return None;
@@ -104,12 +104,14 @@ impl Liner {
     // Keeps more bytes, none of which is LF. Where they are too many nothing is kept from then on.
     fn keep(&mut self, bytes: &[u8]) -> Result<(), CutFault>
         requires { has_feed bytes.now ≡ false }
-        ensures long { (result ≡ Err CutFault.Long) ↔ IsTrue (goes_beyond self.old (length bytes.now)) }
-        ensures ok { OnOk result (self.new ≡ record self.old { kept = self.old.kept ++ bytes.now }) }
+        ensures long { (result ≡ Err CutFault.Long)
+            ↔ IsTrue (goes_beyond self.old (length bytes.now)) }
+        ensures ok { OnOk result
+            (self.new ≡ record self.old { kept = self.old.kept ++ bytes.now }) }
         ensures err { IfErr result (λ fault. self.new ≡ content_left self.old [] (Err fault)) }
         ensures valid { IsContent self.old }
     {
-        if self.was_long || self.kept.len() + bytes.len() > LONGEST {
+        if self.was_long || self.kept.len() + bytes.len() > LINE_LIMIT {
             self.kept.clear();
             self.was_long = true;
             return Err(CutFault::Long);
@@ -121,11 +123,12 @@ impl Liner {
     }
 
     // Hands out the kept bytes without one CR at their end.
-    #[tactic(auto, using(crate::proofs::Returns::can_be_read))]
+    #[tactic(auto, using(crate::proofs::CarriageReturnLemmas::can_be_read))]
     fn hand_out(&mut self) -> &[u8]
         ensures kept { result.now ≡ without_return self.old.kept }
         ensures line { CanBeRead result.now }
-        ensures* after { sem 𝓛 (Rests the_row self.entry (λ after. after ≡ record self.old { kept = [] })) }
+        ensures* after { sem 𝓛 (Rests the_row self.entry (λ after.
+            after ≡ record self.old { kept = [] })) }
     {
         std::mem::swap(&mut self.kept, &mut self.handed_out);
         self.kept.clear();

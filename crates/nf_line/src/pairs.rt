@@ -46,7 +46,7 @@ impl<'a> Iterator for Pairs<'a> {
 
     ghost remaining = { item_count (λ p. p) };
 
-    #[tactic(auto, using(crate::proofs::Zips::zip_nil))]
+    #[tactic(auto, using(crate::proofs::ZipLemmas::zip_nil))]
     fn next(&mut self) -> Option<(&'a str, &'a str)> {
         if !self.has_pairs {
             return None;

@@ -1,16 +1,16 @@
 //! Reading one line.
 
-ghost use Rattle.std.specs.Prelude.{◌≡◌, ◌≢◌, ◌<◌, [], length, map, reverse, bytes_eq, All, IfOk};
+ghost use Rattle.std.specs.Prelude.{◌≡◌, ◌≢◌, ◌<◌, ◌≤ℤ◌, [], length, map, reverse, bytes_eq, All, IfOk};
 ghost use Rattle.std.specs.Map.{lookup};
 ghost use Rattle.nf_core.specs.Plan.{keys_of};
 ghost use Rattle.nf_core.specs.Rows.{IsPlainCell};
 ghost use Rattle.nf_text.specs.Fields.{fields_of};
-ghost use Rattle.nf_line.specs.Line.{line_within, texts_in, keys_field, values_field, spelled};
+ghost use Rattle.nf_line.specs.Line.{line_within, parts_of, texts_of, spelled};
 ghost use Rattle.nf_line.specs.Cutting.{CanBeRead};
 ghost use Rattle.nf_line.specs.Rows.{row_of};
 ghost use Rattle.nf_line.specs.Readings.{line_read};
 
-use crate::faults::LineFault;
+use crate::fault::LineFault;
 use crate::fields::{read_fields, read_line_time, read_text, test_counts, test_keys};
 use crate::pairs::Pairs;
 use crate::rows::{last_value, value};
@@ -19,27 +19,32 @@ use nf_text::plain_texts;
 use std::alloc::Global;
 use std::marker::Model;
 
-/// An accepted line. Contracts see its name, its time, and its keys and values as they are written
+/// An accepted line. Contracts see its name, its begin and its end, and its keys and values as they are written
 /// (`Raw` of specs/Raw). Its texts are lent by the line.
 #[derive(Debug, Drop)]
 pub struct RawLine<'a> {
     name: &'a str,
-    time: i64,
+    start: i64,
+    stop: i64,
     keys: &'a str,
     values: &'a str,
 }
 
 impl<'a> Model for RawLine<'a> {
-    ghost use Rattle.std.specs.Prelude.{◌≡◌, false};
     ghost use Rattle.nf_line.specs.Raw as raw;
     ghost use Rattle.nf_line.specs.Line.{texts_in};
-    ghost use Rattle.nf_line.specs.Plain.{holds_mark};
+    ghost use Rattle.nf_line.specs.inner.Plain.{IsAccepted};
 
     ghost Value = { raw.Raw };
 
-    ghost view = { λ l. record { name = l.name.now; time = l.time; texts = texts_in l.keys.now l.values.now } };
+    ghost view = { λ l. record {
+      name = l.name.now;
+      start = l.start;
+      stop = l.stop;
+      texts = texts_in l.keys.now l.values.now;
+    } };
 
-    ghost invariant = { λ l. holds_mark l.values.now ≡ false };
+    ghost invariant = { λ l. IsAccepted l.start l.stop l.values.now };
 }
 
 impl<'a> RawLine<'a> {
@@ -47,12 +52,13 @@ impl<'a> RawLine<'a> {
     /// was dropped before. The answer is the accepted line, or the first fault of the table
     /// (`line_within` of specs/Line). Keys and values are parts of the line, in its order. Takes no
     /// memory.
-    #[tactic(auto, using(crate::proofs::ReadLines::reading, crate::proofs::PlainTexts::values_unmarked))]
+    #[tactic(auto, using(crate::proofs::LineLemmas::reading, crate::proofs::PlainTextLemmas::values_unmarked))]
     pub fn read(line: &'a [u8]) -> Result<RawLine<'a>, LineFault>
         requires some { line.now ≢ [] }
         requires can_be_read { CanBeRead line.now }
         ensures line { line_read result ≡ line_within line.now }
-        ensures parts { IfOk result (λ raw. raw.texts ≡ texts_in (keys_field (fields_of 124 line.now)) (values_field (fields_of 124 line.now))) }
+        ensures texts { IfOk result (λ raw.
+            raw.texts ≡ texts_of (parts_of (fields_of 124 line.now))) }
     {
         let text = read_text(line)?;
         let fields = read_fields(text)?;
@@ -61,7 +67,8 @@ impl<'a> RawLine<'a> {
         test_counts(fields.keys, fields.values)?;
         Ok(RawLine {
             name: fields.name,
-            time,
+            start: time,
+            stop: time,
             keys: fields.keys,
             values: fields.values,
         })
@@ -74,11 +81,19 @@ impl<'a> RawLine<'a> {
         self.name
     }
 
-    /// The time. Takes no memory.
-    pub fn time(&self) -> i64
-        ensures { result ≡ self.now.time }
+    /// When the line begins, which isn't after its end: at its time. Takes no memory.
+    pub fn start(&self) -> i64
+        ensures start { result ≡ self.now.start }
+        ensures within { result ≤ℤ self.now.stop }
     {
-        self.time
+        self.start
+    }
+
+    /// When the line ends, by which lines are ordered: at its time. Takes no memory.
+    pub fn time(&self) -> i64
+        ensures { result ≡ self.now.stop }
+    {
+        self.stop
     }
 
     /// The keys with their values, as they are written, in their order. Takes no memory.
@@ -92,7 +107,8 @@ impl<'a> RawLine<'a> {
     /// (`row_of` of specs/Rows). Its texts are plain.
     pub fn row(&self, alloc: Global, plan: &Plan, name: u32) -> Result<Row, NoMemory>
         requires { name < length plan.now.names }
-        ensures row { IfOk result (λ row. row ≡ row_of (keys_of plan.now name) (map spelled self.now.texts)) }
+        ensures row { IfOk result (λ row.
+            row ≡ row_of (keys_of plan.now name) (map spelled self.now.texts)) }
         ensures plain { IfOk result (All IsPlainCell) }
     {
         let mut row = Row::new(alloc);
@@ -103,9 +119,10 @@ impl<'a> RawLine<'a> {
     }
 
     // The cell of a key.
-    #[tactic(auto, using(crate::proofs::Cells::cell_of))]
+    #[tactic(auto, using(crate::proofs::CellLemmas::cell_of))]
     pub(crate) fn cell(&self, alloc: Global, key: &str) -> Result<Option<Value>, NoMemory>
-        ensures cell { IfOk result (λ cell. cell ≡ lookup (bytes_eq key.now) (reverse (map spelled self.now.texts))) }
+        ensures cell { IfOk result (λ cell.
+            cell ≡ lookup (bytes_eq key.now) (reverse (map spelled self.now.texts))) }
         ensures plain { IfOk result IsPlainCell }
     {
         plain_texts();

@@ -14,7 +14,7 @@ use nf_text::{Read, read_value, spellings_are_apart};
 use std::alloc::Global;
 
 /// The value of the last pair with a key, as it is written.
-#[tactic(auto, using(crate::proofs::LastPairs::last_looked_up))]
+#[tactic(auto, using(crate::proofs::LastPairLemmas::last_looked_up))]
 pub(crate) fn last_value<'a>(pairs: Pairs<'a>, key: &str) -> Option<&'a str>
     ensures { option_copied result ≡ lookup (bytes_eq key.now) (reverse pairs.entry) }
 {

@@ -1,13 +1,13 @@
-mod Worked
-pub mod Lists
-pub mod Levels
-pub mod Heads
-pub mod Example
-pub mod Entries
-pub mod Places
-pub mod Cells
-pub mod Empty
-pub mod OperatorExample
-pub mod ProperValues
-pub mod ProperPools
-pub mod WrittenNumbers
+mod WorkedTraces
+pub mod ListLemmas
+pub mod Public
+pub mod PoolLemmas
+pub mod EvaluationLemmas
+pub mod HeadLemmas
+pub mod EntryLemmas
+pub mod PlaceLemmas
+pub mod CellLemmas
+pub mod EmptyInputLemmas
+pub mod ContentLemmas
+pub mod ProperValueLemmas
+pub mod ProperPoolLemmas

@@ -1,10 +1,8 @@
 pub mod Results
 pub mod Members
 pub mod Work
+pub mod Levels
 pub mod Pools
 pub mod Changes
-pub mod PoolLaws
-pub mod Known
-pub mod Example
 pub mod ProperRows
-pub mod OperatorExample
+pub mod inner

@@ -1,5 +1,5 @@
 -- What the clauses of a rule need: a rule of a plan, and members that have what the clauses read.
-use Rattle.std.specs.Prelude.{◌≡◌, ℕ, [], ◌++◌, length, slice_index_or, List, map, Option, None, Some, option_to_list, All, IsTrue, ⊤}
+use Rattle.std.specs.Prelude.{◌≡◌, ℕ, [], ◌++◌, length, slice_index_or, List, map, Option, None, Some, option_to_list, All, IsTrue, ◌≤ℤ◌, ⊤}
 use Rattle.nf_core.specs.Texts.{IsPlain}
 use Rattle.nf_core.specs.Expressions.{reads_within, widths_of, texts_of}
 use Rattle.nf_core.specs.Intervals.{Interval}
@@ -85,3 +85,7 @@ IsOfKeys plan n i = length i.row ≡ length (keys_of plan n)
 -- and so has that of each interval of each name
 abbrev pub AreOfKeys : Plan → List (List Interval) → Type 0
 AreOfKeys plan lists = (n : ℕ) → All (IsOfKeys plan n) (slice_index_or lists n [])
+
+-- an interval begins no later than it ends
+abbrev pub IsInTime : Interval → Type 0
+IsInTime i = i.start ≤ℤ i.stop

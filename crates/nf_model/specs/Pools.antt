@@ -1,12 +1,13 @@
 -- Candidates and pools: the meaning of the rules over whole inputs.
-use Rattle.std.specs.Prelude.{ℕ, zero, suc, Bool, not, List, [], ◌++◌, filter, flat_map, slice_index_or, if◌then◌else◌}
+use Rattle.std.specs.Prelude.{Bool, not, List, [], ◌++◌, filter, flat_map, slice_index_or, if◌then◌else◌}
 use Rattle.std.specs.List.{list_any}
 use Rattle.nf_core.specs.Intervals.{Interval, is_strictly_inside}
 use Rattle.nf_core.specs.Sets.{once}
-use Rattle.nf_core.specs.Plan.{Plan, rules_of, level_of}
+use Rattle.nf_core.specs.Plan.{Plan, rules_of}
 use Rattle.nf_core.specs.declared.terms.Link.{Link}
 use Rattle.nf_core.specs.declared.terms.Link.TheVariants.{One, Pair, Unless}
 use Rattle.nf_core.specs.declared.terms.PlanRule.{PlanRule}
+use Rattle.nf_model.specs.Levels.{Pools, Step, by_levels}
 use Rattle.nf_model.specs.Results.{results}
 
 -- for each name the intervals that were entered, ascending, each once
@@ -14,7 +15,7 @@ abbrev pub Inputs : Type 0
 Inputs = List (List Interval)
 
 -- the intervals of a name
-abbrev pub of_name : Inputs → ℕ → List Interval
+abbrev pub of_name : Inputs → Pools
 of_name lists n = slice_index_or lists n []
 
 -- whether no member of a list lies strictly inside an interval
@@ -30,28 +31,27 @@ abbrev pub judged : Bool → List Interval → List Interval
 judged full members = if full then once members else once (minimal members)
 
 -- the intervals of a link's second name
-abbrev pub second_of : (ℕ → List Interval) → Link → List Interval
+abbrev pub second_of : Pools → Link → List Interval
 second_of pool One = []
 second_of pool (Pair op n) = pool n
 second_of pool (Unless xop n) = pool n
 
 -- the results of a rule, where the pools of names are these
-abbrev pub results_over : (ℕ → List Interval) → PlanRule → List Interval
+abbrev pub results_over : Pools → PlanRule → List Interval
 results_over pool rule = results rule (pool rule.first) (second_of pool rule.link)
 
 -- the inputs of a name, followed by the results of each of its rules in order, where the pools of other names are these
-abbrev pub candidates_over : Plan → Inputs → (ℕ → List Interval) → ℕ → List Interval
+abbrev pub candidates_over : Plan → Inputs → Step
 candidates_over plan inputs pool n = of_name inputs n ++ flat_map (results_over pool) (rules_of plan n)
 
--- the pools worked out through so many levels. They are those of each name below that level, since a name's rules read names of lower levels alone; nothing else reads the others
-unfoldable pub pool_below : Plan → Bool → Inputs → ℕ → ℕ → List Interval
-pool_below plan full inputs zero n = []
-pool_below plan full inputs (suc level) n = judged full (candidates_over plan inputs (pool_below plan full inputs level) n)
+-- the held candidates of a name, where the pools of other names are these
+abbrev pub held_over : Plan → Bool → Inputs → Step
+held_over plan full inputs pool n = judged full (candidates_over plan inputs pool n)
 
--- the pool of a name: its held candidates
-abbrev pub pool : Plan → Bool → Inputs → ℕ → List Interval
-pool plan full inputs n = pool_below plan full inputs (suc (level_of plan n)) n
+-- the pool of a name: its held candidates, over the pools of the names below
+abbrev pub pool : Plan → Bool → Inputs → Pools
+pool plan full inputs = by_levels plan (held_over plan full inputs)
 
 -- the candidates of a name
-abbrev pub candidates : Plan → Bool → Inputs → ℕ → List Interval
+abbrev pub candidates : Plan → Bool → Inputs → Pools
 candidates plan full inputs n = candidates_over plan inputs (pool plan full inputs) n

@@ -82,9 +82,13 @@ of_pair rule op i j =
     then built rule (span i.start i.stop j.start j.stop op).0 (span i.start i.stop j.start j.stop op).1 i (Some j)
     else None
 
--- whether j blocks i: by the operator, where `where` is met. Where both atoms have one name, an interval doesn't block itself
+-- whether j faces i: it blocks i by the operator, and isn't i itself, which it is where both atoms have one name and the two are the same
+unfoldable pub faces : Xop → Bool → Interval → Interval → Bool
+faces xop one_name i j = blocks i.start i.stop j.start j.stop xop && not (one_name && same i j)
+
+-- a blocker of i is an interval that faces it and with which `where` is met
 unfoldable pub is_blocker : PlanRule → Xop → Bool → Interval → Interval → Bool
-is_blocker rule xop one_name i j = blocks i.start i.stop j.start j.stop xop && is_met rule i (Some j) && not (one_name && same i j)
+is_blocker rule xop one_name i j = faces xop one_name i j && is_met rule i (Some j)
 
 -- what an exclusive rule gives from an interval: its span, where no other one blocks it. Its clauses read that interval alone
 unfoldable pub of_unblocked : PlanRule → Xop → Bool → List Interval → Interval → Option Interval

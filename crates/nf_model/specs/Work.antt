@@ -1,7 +1,6 @@
 -- How many expressions a rule evaluates.
-use Rattle.std.specs.Prelude.{ℕ, ◌+◌, ◌==◌, List, Option, None, Some, find, length}
+use Rattle.std.specs.Prelude.{ℕ, ◌+◌, Option, None, Some, length}
 use Rattle.nf_core.specs.declared.terms.Term.{Term}
-use Rattle.nf_core.specs.declared.terms.PlanEntry.{PlanEntry}
 use Rattle.nf_core.specs.declared.terms.PlanRule.{PlanRule}
 
 -- 1 where a clause is there, else 0
@@ -16,12 +15,3 @@ values rule = length rule.entries + present rule.start + present rule.stop
 -- all clauses: these, and 1 for `where`, where it is there
 abbrev pub clauses : PlanRule → ℕ
 clauses rule = present rule.filter + values rule
-
--- 1 where there is an entry, else 0
-abbrev pub one_entry : Option PlanEntry → ℕ
-one_entry None = 0
-one_entry (Some entry) = 1
-
--- 1 where a map has an entry with a place, else 0
-abbrev pub mapped_at : List PlanEntry → ℕ → ℕ
-mapped_at entries place = one_entry (find (λ (entry : PlanEntry). entry.place == place) entries)

@@ -2,7 +2,7 @@
 
 ghost use Rattle.std.specs.Prelude.{◌≡◌, ◌==◌, ◌<◌, ℕ, [], ◌++◌, All, length, replicate, slice_set, ◌+◌, ◌≤◌, OnOk, IfOk, if◌then◌else◌};
 ghost use Rattle.nf_core.specs.Plan.{body_names, level_of};
-ghost use Rattle.nf_model.specs.Known.{AreKnown, ArePools};
+ghost use Rattle.nf_model.specs.inner.Known.{AreKnown, ArePools};
 ghost use Rattle.nf_model.specs.Members.{IsPlanned, HaveAllPlaces, AreOfKeys};
 ghost use Rattle.nf_model.specs.Pools.{of_name, second_of, results_over, candidates_over, judged};
 

@@ -20,9 +20,20 @@ fn is_itself(one_name: bool, first: &Interval, second: &Interval) -> bool
     one_name && first == second
 }
 
-/// Whether the second interval blocks the first one (`is_blocker` of specs/Results): by the
-/// operator, where the pair meets `where`. Where both atoms have one name, an interval doesn't block
-/// itself.
+/// Whether the second interval faces the first one (`faces` of specs/Results): it blocks it by the
+/// operator, and isn't that interval itself.
+#[tactic(auto, unfolding(crate::specs::Results::faces))]
+fn faces(xop: Xop, one_name: bool, first: &Interval, second: &Interval) -> bool
+    ensures { result ≡ spec.faces xop one_name first.now second.now }
+{
+    if is_itself(one_name, first, second) {
+        return false;
+    }
+    blocks(xop, first.start, first.stop, second.start, second.stop)
+}
+
+/// Whether the second interval is a blocker of the first one (`is_blocker` of specs/Results): it faces
+/// it, and the pair meets `where`.
 #[tactic(auto, unfolding(crate::specs::Results::is_blocker))]
 fn is_blocker<L: Ledger>(
     rule: &PlanRule,
@@ -37,10 +48,7 @@ fn is_blocker<L: Ledger>(
     requires places { HavePlaces (option_to_list rule.now.filter) first.now (Some second.now) }
     ensures { result ≡ spec.is_blocker rule.now xop one_name first.now second.now }
 {
-    if !blocks(xop, first.start, first.stop, second.start, second.stop) {
-        return false;
-    }
-    if is_itself(one_name, first, second) {
+    if !faces(xop, one_name, first, second) {
         return false;
     }
     is_met(rule, first, Some(second), steps)
@@ -57,7 +65,8 @@ fn is_blocked<L: Ledger>(
 ) -> bool
     requires planned { IsPlanned rule.now }
     requires unless { IsUnlessBy xop rule.now.link }
-    requires places { All (λ j. HavePlaces (option_to_list rule.now.filter) first.now (Some j)) others.now }
+    requires places { All (λ j.
+        HavePlaces (option_to_list rule.now.filter) first.now (Some j)) others.now }
     ensures { result ≡ list_any (spec.is_blocker rule.now xop one_name first.now) others.now }
 {
     for second in others.walk() {
@@ -82,7 +91,8 @@ fn unblocked_result<L: Ledger>(
 ) -> Result<Option<Interval>, NoMemory>
     requires planned { IsPlanned rule.now }
     requires unless { IsUnlessBy xop rule.now.link }
-    requires pairs { All (λ j. HavePlaces (option_to_list rule.now.filter) first.now (Some j)) others.now }
+    requires pairs { All (λ j.
+        HavePlaces (option_to_list rule.now.filter) first.now (Some j)) others.now }
     requires places { HavePlaces (result_terms rule.now) first.now None }
     ensures { IfOk result (λ r. r
         ≡ spec.of_unblocked rule.now xop one_name others.now first.now) }
@@ -106,7 +116,8 @@ pub(crate) fn push_unblocked<L: Ledger>(
 ) -> Result<(), NoMemory>
     requires planned { IsPlanned rule.now }
     requires unless { IsUnlessBy xop rule.now.link }
-    requires pairs { All (λ i. All (λ j. HavePlaces (option_to_list rule.now.filter) i (Some j)) others.now) firsts.now }
+    requires pairs { All (λ i. All (λ j.
+        HavePlaces (option_to_list rule.now.filter) i (Some j)) others.now) firsts.now }
     requires places { All (λ i. HavePlaces (result_terms rule.now) i None) firsts.now }
     ensures { OnOk result (out.new ≡ out.old
         ++ filter_map (spec.of_unblocked rule.now xop one_name others.now) firsts.now) }

@@ -3,7 +3,7 @@
 ghost use Rattle.std.specs.Prelude.{◌≡◌, ◌<◌, length, IfOk};
 ghost use Rattle.nf_core.specs.Plan.{keys_of};
 ghost use Rattle.nf_core.specs.Sets.{IsSet};
-ghost use Rattle.nf_model.specs.Changes.{Content, with_input, change, pool_of};
+ghost use Rattle.nf_model.specs.Changes.{Content, IsContent, with_input, change, pool_of};
 
 use nf_core::{Change, Held, Interval, NoMemory, Steps};
 use std::alloc::Global;
@@ -11,8 +11,9 @@ use std::sync::ledger::Ledger;
 
 /// An evaluator of a plan's rules over the intervals that were entered so far.
 ///
-/// Contracts see its content: a plan, whether minimality is off, and for each name its inputs,
-/// ascending and each once (`Content` of specs/Changes).
+/// Contracts see its content: a plan, whether minimality is off, and for each name its inputs
+/// (`Content` of specs/Changes). That is always a content of a valid plan (`IsContent`): each call says
+/// so.
 pub trait Inferer: Sized {
     ghost content: { Self → Content };
 
@@ -27,6 +28,7 @@ pub trait Inferer: Sized {
     ) -> Result<(Self, Change), NoMemory>
         requires name { name < length (content self).plan.names }
         requires row { length interval.row ≡ length (keys_of (content self).plan name) }
+        ensures valid { IsContent (content self) }
         ensures content { IfOk result (λ r. content r.0 ≡ with_input name interval (content self)) }
         ensures change { IfOk result (λ r. r.1
             ≡ change (content self) (with_input name interval (content self))) };
@@ -35,6 +37,7 @@ pub trait Inferer: Sized {
     /// specs/Pools). Takes no memory.
     fn held(&self, name: u32) -> Held<'_>
         requires { name < length (content self.now).plan.names }
+        ensures valid { IsContent (content self.now) }
         ensures pool { result ≡ pool_of (content self.now) name }
         ensures sorted { IsSet result };
 }

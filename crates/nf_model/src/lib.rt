@@ -2,19 +2,17 @@
 //! each step.
 //!
 //! specs/Results has the clauses of a rule over its members, and its results over whole lists by all
-//! pairs; specs/Pools has the candidates and the pool of each name; specs/Changes has the content of
-//! an evaluator and what the pools of heads lose and gain. `is_met` and `build` carry out the clauses
-//! of a rule, with `maps` for the rows. `Inferer` is what each evaluator promises by these
-//! definitions, and `Scratch` is the plainest one: `results` computes the results of a rule, with
-//! `exclusive` for those of exclusive ones, `judging` which candidates are held, `evaluation` the
-//! pools level by level, and `changes` what differs. Below stand nf_core with its plans and
-//! intervals, nf_expr with the values of expressions and nf_relations with the operators; above
-//! stands what reads traces and announces changes, over any `Inferer`.
+//! pairs; specs/Levels has recursion on the level by any step, and specs/Pools by it the candidates and
+//! the pool of each name; specs/Changes has the content of an evaluator and what the pools of heads
+//! lose and gain. `is_met` and `build` carry out the clauses of a rule, with `maps` for the rows.
+//! `Inferer` is what each evaluator promises by these definitions, and `Scratch` is the plainest one:
+//! `results` computes the results of a rule, with `exclusive` for those of exclusive ones, `judging`
+//! which candidates are held, `evaluation` the pools level by level, and `changes` what differs. Below
+//! stand nf_core with its plans and intervals, nf_expr with the values of expressions and nf_relations
+//! with the operators; above stands what reads traces and announces changes, over any `Inferer`.
 #![tactic(auto)]
 
 mod changes;
-#[cfg(test)]
-mod clause_tests;
 mod clauses;
 mod evaluation;
 mod exclusive;
@@ -22,16 +20,12 @@ mod inferers;
 mod judging;
 mod laws;
 mod maps;
-#[cfg(test)]
-mod operator_tests;
 mod results;
 mod row_laws;
 mod scratches;
-#[cfg(test)]
-mod tests;
 
 pub use clauses::{build, is_met};
 pub use inferers::Inferer;
-pub use laws::pools_are_judged_candidates;
+pub use laws::{contents_stay, lists_by_levels_are_solved, pools_are_judged_candidates};
 pub use row_laws::pools_have_proper_rows;
 pub use scratches::Scratch;

@@ -8,7 +8,7 @@ ghost use Rattle.nf_core.specs.declared.terms.PlanEntry.{PlanEntry as EntryOf};
 ghost use Rattle.nf_expr.specs.Seen.{value_seen};
 ghost use Rattle.nf_model.specs.Members.{IsEntryOver};
 ghost use Rattle.nf_model.specs.Results as spec;
-ghost use Rattle.nf_model.specs.Work.{mapped_at};
+ghost use Rattle.nf_model.specs.inner.MapEntries.{mapped_at};
 
 use nf_core::{Interval, NoMemory, PlanEntry, Row, Steps, TryCopy, Value};
 use nf_expr::{Seen, eval};
@@ -27,8 +27,9 @@ pub(crate) fn mapped_row<L: Ledger>(
     steps: &mut Steps<L>,
 ) -> Result<Row, NoMemory>
     requires { All (IsEntryOver first.now (option_copied second)) entries.now }
-    ensures value { IfOk result (λ row. row
-        ≡ map (λ place. spec.cell_of entries.now place first.now (option_copied second.entry)) (range_with_len 0 keys)) }
+    ensures value { IfOk result (λ row. row ≡ map (λ place.
+        spec.cell_of entries.now place first.now (option_copied second.entry))
+        (range_with_len 0 keys)) }
     ensures counted { steps.old ≤ steps.new }
     ensures cost { steps.new ≤ steps.old + length entries.now }
 {

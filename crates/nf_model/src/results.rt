@@ -15,7 +15,7 @@ use std::alloc::Global;
 use std::sync::ledger::Ledger;
 
 /// What a rule with one atom gives from an interval.
-#[tactic(auto, using(crate::proofs::Places::filter_read, crate::proofs::Places::result_read), unfolding(crate::specs::Results::of_one, crate::specs::Results::built_by))]
+#[tactic(auto, using(crate::proofs::PlaceLemmas::filter_read, crate::proofs::PlaceLemmas::result_read), unfolding(crate::specs::Results::of_one, crate::specs::Results::built_by))]
 fn one_result<L: Ledger>(
     alloc: Global,
     rule: &PlanRule,
@@ -34,7 +34,7 @@ fn one_result<L: Ledger>(
 }
 
 /// What an inclusive rule gives from a pair.
-#[tactic(auto, using(crate::proofs::Places::filter_read, crate::proofs::Places::result_read), unfolding(crate::specs::Results::of_pair, crate::specs::Results::built_by))]
+#[tactic(auto, using(crate::proofs::PlaceLemmas::filter_read, crate::proofs::PlaceLemmas::result_read), unfolding(crate::specs::Results::of_pair, crate::specs::Results::built_by))]
 fn pair_result<L: Ledger>(
     alloc: Global,
     rule: &PlanRule,
@@ -123,7 +123,8 @@ fn push_pairs<L: Ledger>(
 ) -> Result<(), NoMemory>
     requires planned { IsPlanned rule.now }
     requires pair { IsPairBy op rule.now.link }
-    requires places { All (λ i. All (λ j. HavePlaces (clause_terms rule.now) i (Some j)) seconds.now) firsts.now }
+    requires places { All (λ i. All (λ j.
+        HavePlaces (clause_terms rule.now) i (Some j)) seconds.now) firsts.now }
     ensures { OnOk result (out.new ≡ out.old
         ++ flat_map (λ i. filter_map (of_pair rule.now op i) seconds.now) firsts.now) }
 {

@@ -30,7 +30,7 @@ impl Model for Scratch {
 
     ghost coded = { Prim.hlevel (codes, term.the_row.coded) };
 
-    ghost use Rattle.nf_model.specs.Known.{IsEvaluated};
+    ghost use Rattle.nf_model.specs.inner.Known.{IsEvaluated};
 
     ghost view = { λ s. record { plan = s.plan; full = s.full; inputs = s.inputs.items } };
 
@@ -71,6 +71,7 @@ impl Inferer for Scratch {
             mut inputs,
             pools: before,
         } = self;
+        prove!(interval.start <= interval.stop);
         inputs[name as usize].insert(interval)?;
         let pools = pools_of(alloc, &plan, full, inputs.as_slice(), steps)?;
         let change = change_of(alloc, &plan, before.as_slice(), pools.as_slice())?;

@@ -1,8 +1,8 @@
-pub mod Lists
-pub mod Numbers
-pub mod Marking
-pub mod Walks
-pub mod Readings
-pub mod Reachable
-pub mod OneAnswer
-pub mod Answering
+pub mod ListLemmas
+pub mod ModulePlaceLemmas
+pub mod MarkLemmas
+pub mod WalkLemmas
+pub mod ReadingLemmas
+pub mod ReachLemmas
+pub mod UniquenessLemmas
+pub mod AnswerLemmas

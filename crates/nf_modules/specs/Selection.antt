@@ -20,6 +20,14 @@ first_again earlier (name ∷ later) = if list_any (bytes_eq name) earlier then 
 abbrev pub is_missing : List Module → List ℕ → Bool
 is_missing modules name = not (list_any (bytes_eq name) (module_names modules))
 
+-- the imports of some modules in order
+abbrev pub all_imports : List Module → List (List ℕ)
+all_imports modules = flat_map (λ (m : Module). m.imports) modules
+
+-- the rules of some modules in order
+abbrev pub all_rules : List Module → List Rule
+all_rules modules = flat_map (λ (m : Module). m.rules) modules
+
 -- a module is reached, by walks: without a root every module is; with a root the one of that name is, and each one that a reached one imports
 pub data Reached (modules : List Module) (root : Option (List ℕ)) : Module → Type 0 where
   every : {m : Module} → root ≡ None → Reached modules root m
@@ -31,7 +39,7 @@ abbrev pub fault_of : List Module → Option (List ℕ) → List Module → Opti
 fault_of modules root reached =
     option_or (option_map SameModule (first_again [] (module_names modules)))
     (option_or (option_map NoModule (find (is_missing modules) (option_to_list root)))
-    (option_map NoModule (find (is_missing modules) (flat_map (λ (m : Module). m.imports) reached))))
+    (option_map NoModule (find (is_missing modules) (all_imports reached))))
 
 -- a fault, or the rules where there is none
 abbrev pub settled : Option ModuleFault → List Rule → Result (List Rule) ModuleFault
@@ -46,4 +54,4 @@ AreReached modules root reached = AllZip (λ m is_reached. IsTrue is_reached ↔
 pub record Selects (modules : List Module) (root : Option (List ℕ)) (answer : Result (List Rule) ModuleFault) : Type 0 where
   pub reached : List Bool
   pub by_walks : AreReached modules root reached
-  pub answered : answer ≡ settled (fault_of modules root (items_where_true reached modules)) (flat_map (λ (m : Module). m.rules) (items_where_true reached modules))
+  pub answered : answer ≡ settled (fault_of modules root (items_where_true reached modules)) (all_rules (items_where_true reached modules))

@@ -8,6 +8,9 @@ ghost use Rattle.nf_modules.specs.Selection.{Selects};
 
 /// For every list of modules and every root, or none, there is one answer, and only one.
 pub fn selection_is_one()
-    ensures some { (modules : List Module) (root : Option (List ℕ)) → (answer : Result (List Rule) ModuleFault) × Selects modules root answer }
-    ensures one { (modules : List Module) (root : Option (List ℕ)) (a b : Result (List Rule) ModuleFault) → Selects modules root a → Selects modules root b → a ≡ b }
+    ensures some { (modules : List Module) (root : Option (List ℕ))
+        → (answer : Result (List Rule) ModuleFault) × Selects modules root answer }
+    ensures one { (modules : List Module) (root : Option (List ℕ))
+        (a b : Result (List Rule) ModuleFault)
+        → Selects modules root a → Selects modules root b → a ≡ b }
 {}

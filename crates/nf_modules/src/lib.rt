@@ -12,8 +12,6 @@ mod places;
 mod reached;
 mod search;
 mod selection;
-#[cfg(test)]
-mod tests;
 
 pub use fault::ModuleFault;
 pub use laws::selection_is_one;

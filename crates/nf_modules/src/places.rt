@@ -1,9 +1,7 @@
 //! The places of modules by their names.
 
-ghost use Rattle.std.specs.Prelude.{◌≡◌, ◌≢◌, ◌⊎◌, ◌++◌, ℕ, List, [], ◌∷◌, length, Some, None, IfOk, IfErr, OnOk, bytes_eq, if◌then◌else◌};
-ghost use Rattle.nf_core.specs.declared.trees.Module.{Module as ModuleOf};
-ghost use Rattle.nf_modules.specs.Places.{ArePlaces, number_in};
-ghost use Rattle.nf_modules.specs.Selection.{module_names, first_again};
+ghost use Rattle.std.specs.Prelude.{◌≡◌, ◌≢◌, None, IfOk, IfErr, OnOk};
+ghost use Rattle.nf_modules.specs.inner.Places.{ArePlaces, IsAdded, IsGiven, IsNameFault, IsNameFaultBehind, OrNoMemory, number_in};
 ghost use Rattle.nf_modules.specs.declared.fault.ModuleFault.TheVariants as fault;
 
 use crate::fault::ModuleFault;
@@ -17,7 +15,7 @@ pub(crate) type Places<'a> = IndexMap<&'a str, usize>;
 /// The places of some modules by their names. SameModule where a name stands twice.
 pub(crate) fn places_of<'a>(alloc: Global, modules: &'a [Module]) -> Result<Places<'a>, ModuleFault>
     ensures ok { IfOk result (λ places. ArePlaces (number_in places) modules.now) }
-    ensures err { IfErr result (λ f. (f ≡ fault.NoMemory) ⊎ ((name : List ℕ) × (f ≡ fault.SameModule name) × (first_again [] (module_names modules.now) ≡ Some name))) }
+    ensures err { IfErr result (OrNoMemory (IsNameFault modules.now)) }
 {
     let mut places = IndexMap::new(alloc);
     for (place, module) in modules.iter().enumerate() {
@@ -31,13 +29,14 @@ pub(crate) fn places_of<'a>(alloc: Global, modules: &'a [Module]) -> Result<Plac
 fn add_module<'a>(
     alloc: Global,
     places: &mut Places<'a>,
-    module: &'a Module,
+    added: &'a Module,
     place: usize,
 ) -> Result<(), ModuleFault>
-    ensures ok { OnOk result ((ms : List ModuleOf) → place ≡ length ms → ArePlaces (number_in places.old) ms → ArePlaces (number_in places.new) (ms ++ module.now ∷ [])) }
-    ensures err { IfErr result (λ f. (f ≡ fault.NoMemory) ⊎ ((name : List ℕ) × (f ≡ fault.SameModule name) × ((ms later : List ModuleOf) → ArePlaces (number_in places.old) ms → first_again [] (module_names (ms ++ module.now ∷ later)) ≡ Some name))) }
+    ensures ok { OnOk result
+        (IsAdded (number_in places.old) (number_in places.new) place added.now) }
+    ensures err { IfErr result (OrNoMemory (IsNameFaultBehind (number_in places.old) added.now)) }
 {
-    match &module.name {
+    match &added.name {
         Some(name) => add_name(alloc, places, name, place),
         None => Ok(()),
     }
@@ -50,9 +49,11 @@ fn add_name<'a>(
     name: &'a Text,
     place: usize,
 ) -> Result<(), ModuleFault>
-    ensures ok { OnOk result ((other : List ℕ) → number_in places.new other ≡ (if bytes_eq name.now other then Some place else number_in places.old other)) }
+    ensures ok { OnOk result
+        (IsGiven (number_in places.old) (number_in places.new) name.now place) }
     ensures absent { OnOk result (number_in places.old name.now ≡ None) }
-    ensures err { IfErr result (λ f. (f ≡ fault.NoMemory) ⊎ ((f ≡ fault.SameModule name.now) × (number_in places.old name.now ≢ None))) }
+    ensures err { IfErr result (OrNoMemory
+        (λ f. (f ≡ fault.SameModule name.now) × (number_in places.old name.now ≢ None))) }
 {
     if places.insert(name.as_str(), place)?.is_some() {
         return Err(ModuleFault::SameModule(name.copy(alloc)?));

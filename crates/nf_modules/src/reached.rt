@@ -1,10 +1,10 @@
 //! What is asked of the reached modules.
 
-ghost use Rattle.std.specs.Prelude.{◌≡◌, ◌++◌, [], None, length, find, flat_map, IfOk, OnOk, if◌then◌else◌};
+ghost use Rattle.std.specs.Prelude.{◌≡◌, ◌++◌, [], None, length, IfOk, OnOk, if◌then◌else◌};
 ghost use Rattle.std.specs.List.{items_where_true};
 ghost use Rattle.std.specs.Option.{option_copied};
-ghost use Rattle.nf_core.specs.declared.trees.Module.{Module as ModuleOf};
-ghost use Rattle.nf_modules.specs.Places.{number_in, has_no_number};
+ghost use Rattle.nf_modules.specs.Selection.{all_imports, all_rules};
+ghost use Rattle.nf_modules.specs.inner.Places.{number_in, first_missing};
 
 use crate::places::{Places, place_of};
 use nf_core::{Module, NoMemory, Rule, RuleList, Text, TryCopy};
@@ -17,7 +17,9 @@ pub(crate) fn missing_import<'a>(
     places: &Places<'_>,
 ) -> Option<&'a Text>
     requires { length reached.now ≡ length modules.now }
-    ensures { option_copied result ≡ find (has_no_number (number_in places.now)) (flat_map (λ (m : ModuleOf). m.imports) (items_where_true reached.now modules.now)) }
+    ensures { option_copied result
+        ≡ first_missing (number_in places.now)
+        (all_imports (items_where_true reached.now modules.now)) }
 {
     for (place, module) in modules.iter().enumerate() {
         if let Some(name) = missing_in(module, reached[place], places) {
@@ -28,11 +30,12 @@ pub(crate) fn missing_import<'a>(
 }
 
 // The first import of a module that has no place, where the module is reached.
-fn missing_in<'a>(module: &'a Module, is_reached: bool, places: &Places<'_>) -> Option<&'a Text>
-    ensures { option_copied result ≡ (if is_reached then find (has_no_number (number_in places.now)) module.now.imports else None) }
+fn missing_in<'a>(importer: &'a Module, is_reached: bool, places: &Places<'_>) -> Option<&'a Text>
+    ensures { option_copied result
+        ≡ (if is_reached then first_missing (number_in places.now) importer.now.imports else None) }
 {
     if is_reached {
-        first_missing(module.imports.as_slice(), places)
+        first_missing(importer.imports.as_slice(), places)
     } else {
         None
     }
@@ -40,7 +43,7 @@ fn missing_in<'a>(module: &'a Module, is_reached: bool, places: &Places<'_>) -> 
 
 // The first of some names that has no place.
 fn first_missing<'a>(names: &'a [Text], places: &Places<'_>) -> Option<&'a Text>
-    ensures { option_copied result ≡ find (has_no_number (number_in places.now)) names.now }
+    ensures { option_copied result ≡ first_missing (number_in places.now) names.now }
 {
     names
         .iter()
@@ -54,7 +57,7 @@ pub(crate) fn rules_of(
     reached: &[bool],
 ) -> Result<RuleList, NoMemory>
     requires { length reached.now ≡ length modules.now }
-    ensures { IfOk result (λ rules. rules ≡ flat_map (λ (m : ModuleOf). m.rules) (items_where_true reached.now modules.now)) }
+    ensures { IfOk result (λ rules. rules ≡ all_rules (items_where_true reached.now modules.now)) }
 {
     let mut rules = RuleList::new(alloc);
     for (place, module) in modules.iter().enumerate() {
@@ -67,13 +70,13 @@ pub(crate) fn rules_of(
 fn add_module(
     alloc: Global,
     rules: &mut RuleList,
-    module: &Module,
+    added: &Module,
     is_reached: bool,
 ) -> Result<(), NoMemory>
-    ensures { OnOk result (rules.new ≡ rules.old ++ (if is_reached then module.now.rules else [])) }
+    ensures { OnOk result (rules.new ≡ rules.old ++ (if is_reached then added.now.rules else [])) }
 {
     if is_reached {
-        add_rules(alloc, rules, module.rules.as_slice())
+        add_rules(alloc, rules, added.rules.as_slice())
     } else {
         Ok(())
     }

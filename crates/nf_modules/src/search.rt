@@ -1,10 +1,9 @@
 //! Which modules a root reaches.
 
-ghost use Rattle.std.specs.Prelude.{◌≡◌, ◌<◌, ℕ, List, Some, length, slice_get, IfOk, IfSome, OnOk};
+ghost use Rattle.std.specs.Prelude.{◌≡◌, ◌<◌, Some, length, IfOk, IfSome, OnOk};
 ghost use Rattle.std.specs.Option.{option_copied};
-ghost use Rattle.nf_core.specs.declared.trees.Module.{Module as ModuleOf};
-ghost use Rattle.nf_modules.specs.Places.{ArePlaces, number_in};
-ghost use Rattle.nf_modules.specs.Search.{Marks, IsPlaceOf};
+ghost use Rattle.nf_modules.specs.inner.Places.{ArePlaces, number_in};
+ghost use Rattle.nf_modules.specs.inner.Search.{AreWithin, IsPlaceOf, Marks, MarksImports};
 ghost use Rattle.nf_modules.specs.Selection.{AreReached};
 
 use crate::places::{Places, place_of};
@@ -28,7 +27,8 @@ pub(crate) fn reached_modules(
     root: Option<&str>,
 ) -> Result<Vec<bool>, NoMemory>
     requires { ArePlaces (number_in places.now) modules.now }
-    ensures { IfOk result (λ reached. AreReached modules.now (option_copied root.entry) reached.items) }
+    ensures { IfOk result
+        (λ reached. AreReached modules.now (option_copied root.entry) reached.items) }
 {
     match root {
         None => Ok(vec![in alloc; true; modules.len()]?),
@@ -65,16 +65,18 @@ fn mark_imports(
     place: usize,
 ) -> Result<(), NoMemory>
     requires place { place < length modules.now }
-    requires numbers { (name : List ℕ) → IfSome (number_in places.now name) (λ other. other < length search.old.reached.items) }
-    ensures { OnOk result ((m : ModuleOf) × (slice_get modules.now place ≡ Some m) × Marks search.old search.new (IsPlaceOf (number_in places.now) m.imports)) }
+    requires numbers { AreWithin (number_in places.now) search.old }
+    ensures { OnOk result
+        (MarksImports (number_in places.now) modules.now place search.old search.new) }
 {
     mark_all(search, places, modules[place].imports.as_slice())
 }
 
 // Marks the modules with these names.
 fn mark_all(search: &mut Search, places: &Places<'_>, names: &[Text]) -> Result<(), NoMemory>
-    requires { (name : List ℕ) → IfSome (number_in places.now name) (λ place. place < length search.old.reached.items) }
-    ensures { OnOk result (Marks search.old search.new (IsPlaceOf (number_in places.now) names.now)) }
+    requires { AreWithin (number_in places.now) search.old }
+    ensures { OnOk result
+        (Marks search.old search.new (IsPlaceOf (number_in places.now) names.now)) }
 {
     for name in names {
         mark(search, places, name.as_str())?;
@@ -84,8 +86,10 @@ fn mark_all(search: &mut Search, places: &Places<'_>, names: &[Text]) -> Result<
 
 // Marks the module with a name, if there is one.
 fn mark(search: &mut Search, places: &Places<'_>, name: &str) -> Result<(), NoMemory>
-    requires { IfSome (number_in places.now name.now) (λ place. place < length search.old.reached.items) }
-    ensures { OnOk result (Marks search.old search.new (λ i. number_in places.now name.now ≡ Some i)) }
+    requires { IfSome (number_in places.now name.now)
+        (λ place. place < length search.old.reached.items) }
+    ensures { OnOk result
+        (Marks search.old search.new (λ i. number_in places.now name.now ≡ Some i)) }
 {
     match place_of(places, name) {
         Some(place) => mark_place(search, place),

@@ -1,8 +1,8 @@
 //! The rules that are selected.
 
-ghost use Rattle.std.specs.Prelude.{◌≡◌, ◌⊎◌, Err, find, option_to_list};
+ghost use Rattle.std.specs.Prelude.{◌≡◌, ◌⊎◌, Err, option_to_list};
 ghost use Rattle.std.specs.Option.{option_copied};
-ghost use Rattle.nf_modules.specs.Places.{number_in, has_no_number};
+ghost use Rattle.nf_modules.specs.inner.Places.{number_in, first_missing};
 ghost use Rattle.nf_modules.specs.Selection.{Selects};
 ghost use Rattle.nf_modules.specs.declared.fault.ModuleFault.TheVariants as fault;
 
@@ -26,14 +26,16 @@ pub fn select(
     modules: &ModuleList,
     root: Option<&str>,
 ) -> Result<RuleList, ModuleFault>
-    ensures selects { (result ≡ Err fault.NoMemory) ⊎ Selects modules.now (option_copied root.entry) result }
+    ensures selects { (result ≡ Err fault.NoMemory)
+        ⊎ Selects modules.now (option_copied root.entry) result }
 {
     selected(alloc, modules.as_slice(), root)
 }
 
 // The rules that are selected from modules.
 fn selected(alloc: Global, modules: &[Module], root: Option<&str>) -> Result<RuleList, ModuleFault>
-    ensures { (result ≡ Err fault.NoMemory) ⊎ Selects modules.now (option_copied root.entry) result }
+    ensures { (result ≡ Err fault.NoMemory)
+        ⊎ Selects modules.now (option_copied root.entry) result }
 {
     let places = places_of(alloc, modules)?;
     if let Some(name) = missing_root(root, &places) {
@@ -49,7 +51,8 @@ fn selected(alloc: Global, modules: &[Module], root: Option<&str>) -> Result<Rul
 
 // The root where it has no place.
 fn missing_root<'a>(root: Option<&'a str>, places: &Places<'_>) -> Option<&'a str>
-    ensures { option_copied result ≡ find (has_no_number (number_in places.now)) (option_to_list (option_copied root.entry)) }
+    ensures { option_copied result
+        ≡ first_missing (number_in places.now) (option_to_list (option_copied root.entry)) }
 {
     match root {
         Some(name) if place_of(places, name).is_none() => Some(name),

@@ -1,4 +1,2 @@
 pub mod Dependence
-pub mod Graph
-pub mod Marks
-pub mod Reach
+pub mod inner

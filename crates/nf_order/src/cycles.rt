@@ -2,8 +2,8 @@
 
 ghost use Rattle.std.specs.Prelude.{◌≡◌, ◌↔◌, if◌then◌else◌, ◌<◌, ◌∷◌, ◌++◌, [], length, slice_set, slice_index_or, All, IsTrue, IfOk, OnOk, true, false};
 ghost use Rattle.nf_order.specs.Dependence.{Walk};
-ghost use Rattle.nf_order.specs.Graph.{IsAbove};
-ghost use Rattle.nf_order.specs.Reach.{AreOff, AreSeen};
+ghost use Rattle.nf_order.specs.inner.Graph.{IsAbove};
+ghost use Rattle.nf_order.specs.inner.Reach.{AreOff, AreSeen};
 
 use crate::graph::Graph;
 use nf_core::NoMemory;
@@ -37,7 +37,8 @@ pub(crate) fn is_on_cycle(
 /// Flags some numbers as seen, and puts those on the stack that weren't.
 fn see_all(numbers: &[usize], seen: &mut Vec<bool>, stack: &mut Vec<usize>) -> Result<(), NoMemory>
     requires { All (λ n. n < length seen.old.items) numbers.now }
-    ensures { OnOk result (AreSeen numbers.now numbers.now seen.old.items seen.new.items stack.old.items stack.new.items) }
+    ensures { OnOk result (AreSeen numbers.now numbers.now
+        seen.old.items seen.new.items stack.old.items stack.new.items) }
 {
     for number in numbers {
         see(*number, seen, stack)?;
@@ -49,7 +50,8 @@ fn see_all(numbers: &[usize], seen: &mut Vec<bool>, stack: &mut Vec<usize>) -> R
 fn see(number: usize, seen: &mut Vec<bool>, stack: &mut Vec<usize>) -> Result<(), NoMemory>
     requires { number < length seen.old.items }
     ensures seen { OnOk result (seen.new.items ≡ slice_set seen.old.items number true) }
-    ensures stack { OnOk result (stack.new.items ≡ (if slice_index_or seen.old.items number false then stack.old.items else stack.old.items ++ number ∷ [])) }
+    ensures stack { OnOk result (stack.new.items ≡ (if slice_index_or seen.old.items number false
+        then stack.old.items else stack.old.items ++ number ∷ [])) }
 {
     if !seen[number] {
         stack.push(number)?;

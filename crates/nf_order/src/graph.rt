@@ -2,18 +2,15 @@
 
 ghost use Rattle.std.specs.Prelude.{◌≡◌, ◌<◌, ◌++◌, [], length, map, All, Contains, IfOk, OnOk};
 ghost use Rattle.std.proofs.Common.{replicate};
-ghost use Rattle.nf_core.specs.Trees.{atoms_of};
-ghost use Rattle.nf_core.specs.Written.{names_of, place_of};
-ghost use Rattle.nf_core.specs.declared.trees.Atom.{Atom};
-ghost use Rattle.nf_order.specs.Graph.{IsGraph, IsReversed, ArePut, graph_of, below_of, numbers_below};
+ghost use Rattle.nf_core.specs.Written.{names_of, names_read, place_of};
+ghost use Rattle.nf_order.specs.inner.Graph.{IsGraph, IsReversed, ArePut, graph_of, below_of, numbers_below};
 
-use crate::names::Names;
-use nf_core::{ListOf, NoMemory, Rule, RuleList};
+use nf_core::{ListOf, Names, NoMemory, Rule, RuleList};
 use std::alloc::Global;
 use std::marker::Model;
 
 /// For each number the numbers that stand below it. Contracts see the lists, and `IsGraph` of
-/// specs/Graph.antt is true of every graph.
+/// specs/inner/Graph.antt is true of every graph.
 #[derive(Drop)]
 pub(crate) struct Graph {
     below: Vec<ListOf<usize>>,
@@ -21,7 +18,7 @@ pub(crate) struct Graph {
 
 impl Model for Graph {
     ghost use Rattle.std.specs.Prelude.{List, ℕ};
-    ghost use Rattle.nf_order.specs.Graph as spec;
+    ghost use Rattle.nf_order.specs.inner.Graph as spec;
 
     ghost Value = { List (List ℕ) };
 
@@ -33,7 +30,7 @@ impl Model for Graph {
 impl Graph {
     /// The graph of some rules: below the number of a name stand those of the names in the bodies of its
     /// rules.
-    pub(crate) fn of(alloc: Global, names: &Names<'_>, rules: &RuleList) -> Result<Graph, NoMemory>
+    pub(crate) fn of(alloc: Global, names: &Names, rules: &RuleList) -> Result<Graph, NoMemory>
         requires { names.now ≡ names_of rules.now }
         ensures { IfOk result (λ graph. graph ≡ graph_of rules.now) }
     {
@@ -97,11 +94,12 @@ fn put_below(
 /// For each name the numbers of the names in the bodies of its rules.
 fn numbers_by_name(
     alloc: Global,
-    names: &Names<'_>,
+    names: &Names,
     rules: &RuleList,
 ) -> Result<Vec<ListOf<usize>>, NoMemory>
     requires { names.now ≡ names_of rules.now }
-    ensures { IfOk result (λ below. below.items ≡ map (numbers_below names.now rules.now) names.now) }
+    ensures { IfOk result
+        (λ below. below.items ≡ map (numbers_below names.now rules.now) names.now) }
 {
     let mut below = no_numbers(alloc, names.len())?;
     for rule in rules.as_slice() {
@@ -123,9 +121,10 @@ fn no_numbers(alloc: Global, names: usize) -> Result<Vec<ListOf<usize>>, NoMemor
 }
 
 /// Puts the numbers of the names in a rule's body at the end.
-fn add_numbers(numbers: &mut ListOf<usize>, names: &Names<'_>, rule: &Rule) -> Result<(), NoMemory>
-    requires { All (Contains names.now) (map (λ (atom : Atom). atom.name) (atoms_of rule.now.body)) }
-    ensures { OnOk result (numbers.new ≡ numbers.old ++ map (place_of names.now) (map (λ (atom : Atom). atom.name) (atoms_of rule.now.body))) }
+fn add_numbers(numbers: &mut ListOf<usize>, names: &Names, rule: &Rule) -> Result<(), NoMemory>
+    requires { All (Contains names.now) (names_read rule.now.body) }
+    ensures { OnOk result
+        (numbers.new ≡ numbers.old ++ map (place_of names.now) (names_read rule.now.body)) }
 {
     let mut place = 0;
     while let Some(atom) = rule.reads(place) {

@@ -2,7 +2,7 @@
 
 ghost use Rattle.std.specs.Prelude.{◌≡◌, ◌+◌, ◌^◌, ◌<◌, ◌≤◌, length, take, slice_index_or, All, IfOk};
 ghost use Rattle.std.proofs.Common.{replicate};
-ghost use Rattle.nf_order.specs.Marks.{HasLevel, is_new, is_leveled, level_in, level_at, level_over};
+ghost use Rattle.nf_order.specs.inner.Marks.{HasLevel, is_new, is_leveled, level_in, level_at, level_over};
 
 use nf_core::NoMemory;
 use std::alloc::Global;
@@ -62,7 +62,8 @@ pub(crate) fn next_unleveled(below: &[usize], marks: &[Mark], from: usize) -> us
     requires leveled { All (HasLevel marks.now) (take from below.now) }
     ensures within { result ≤ length below.now }
     ensures leveled { All (HasLevel marks.now) (take result below.now) }
-    ensures stops { result < length below.now → ¬ HasLevel marks.now (slice_index_or below.now result 0) }
+    ensures stops { result < length below.now
+        → ¬ HasLevel marks.now (slice_index_or below.now result 0) }
 {
     let mut place = from;
     while place < below.len() && marks[below[place]].is_leveled() {

@@ -1,21 +1,18 @@
 //! The levels of names, or the first cycle.
 
-ghost use Rattle.std.specs.Prelude.{◌≡◌, ◌⊎◌, ◌↔◌, ◌<◌, ◌^◌, ℕ, List, Ok, Err, length, map, All, IsTrue, IfOk, OnOk};
-ghost use Rattle.std.specs.List.{IsDistinct, zip};
-ghost use Rattle.nf_core.specs.Texts.{text_eq};
+ghost use Rattle.std.specs.Prelude.{◌≡◌, ◌⊎◌, ◌↔◌, ◌<◌, ◌^◌, ℕ, List, Err, length, map, All, IsTrue, IfOk, OnOk};
 ghost use Rattle.nf_core.specs.Written.{AreLevels, names_of};
-ghost use Rattle.nf_order.specs.Dependence.{IsAcyclic, IsFirstCycle};
-ghost use Rattle.nf_order.specs.Graph.{graph_of};
-ghost use Rattle.nf_order.specs.Marks.{AreMarks, HasCycle, HasLevel, is_leveled, level_in};
-ghost use Rattle.nf_order.specs.Reach.{AreOff, IsFlagged};
+ghost use Rattle.nf_order.specs.Dependence.{IsAcyclic, IsFirstCycle, leveled_names};
+ghost use Rattle.nf_order.specs.inner.Graph.{graph_of};
+ghost use Rattle.nf_order.specs.inner.Marks.{AreMarks, HasCycle, HasLevel, is_leveled, level_in};
+ghost use Rattle.nf_order.specs.inner.Reach.{AreOff, IsFlagged};
 
 use crate::cycles::is_on_cycle;
 use crate::fault::OrderFault;
 use crate::graph::Graph;
+use crate::leveling::settled;
 use crate::marks::Mark;
-use crate::names::Names;
-use crate::ordering::settled;
-use nf_core::{Levels, NoMemory, RuleList, Text};
+use nf_core::{Levels, Names, NoMemory, RuleList, Text};
 use std::alloc::Global;
 
 /// The level of each name of some rules (`AreLevels` of nf_core's specs/Written.antt), names in the
@@ -24,16 +21,19 @@ use std::alloc::Global;
 pub fn levels(alloc: Global, rules: &RuleList) -> Result<Levels, OrderFault>
     requires few { length rules.now < 2 ^ 32 }
     ensures ok { IfOk result (λ levels. AreLevels rules.now levels) }
-    ensures names { IfOk result (λ levels. map (λ (l : List ℕ × ℕ). l.0) levels ≡ names_of rules.now) }
+    ensures names { IfOk result (λ levels. leveled_names levels ≡ names_of rules.now) }
     ensures acyclic { OnOk result (IsAcyclic rules.now) }
-    ensures cycle { (name : List ℕ) → result ≡ Err (OrderFault.Cycle name) → IsFirstCycle rules.now name }
-    ensures every_cycle { (name : List ℕ) → IsFirstCycle rules.now name → (result ≡ Err (OrderFault.Cycle name)) ⊎ (result ≡ Err OrderFault.NoMemory) }
+    ensures cycle { (name : List ℕ)
+        → result ≡ Err (OrderFault.Cycle name) → IsFirstCycle rules.now name }
+    ensures every_cycle { (name : List ℕ) → IsFirstCycle rules.now name
+        → (result ≡ Err (OrderFault.Cycle name)) ⊎ (result ≡ Err OrderFault.NoMemory) }
 {
     let names = Names::of(alloc, rules)?;
     let graph = Graph::of(alloc, &names, rules)?;
     let marks = settled(alloc, &graph)?;
     if are_leveled(marks.as_slice()) {
-        return Ok(named(alloc, &names, marks.as_slice())?);
+        let levels = levels_in(alloc, marks.as_slice())?;
+        return Ok(Levels::of_names(names, levels));
     }
     let off = off_cycles(alloc, &graph, marks.as_slice())?;
     let head = first_cycle(alloc, rules, &names, &graph, off.as_slice())?;
@@ -47,16 +47,14 @@ fn are_leveled(marks: &[Mark]) -> bool
     marks.iter().all(|mark| mark.is_leveled())
 }
 
-/// The levels of names, by their numbers.
-fn named(alloc: Global, names: &Names<'_>, marks: &[Mark]) -> Result<Levels, NoMemory>
-    requires each { length marks.now ≡ length names.now }
-    requires distinct { IsDistinct text_eq names.now }
-    requires few { All (λ mark. level_in mark < 2 ^ 32) marks.now }
-    ensures { IfOk result (λ levels. levels ≡ zip names.now (map level_in marks.now)) }
+/// The levels of numbers, in their order.
+fn levels_in(alloc: Global, marks: &[Mark]) -> Result<Vec<u32>, NoMemory>
+    requires { All (λ mark. level_in mark < 2 ^ 32) marks.now }
+    ensures { IfOk result (λ levels. levels.items ≡ map level_in marks.now) }
 {
-    let mut levels = Levels::new(alloc);
-    for number in 0..names.len() {
-        levels.add(names.at(number), marks[number].level() as u32)?;
+    let mut levels = Vec::new(alloc);
+    for mark in marks {
+        levels.push(mark.level() as u32)?;
     }
     Ok(levels)
 }
@@ -78,7 +76,8 @@ fn off_cycles(alloc: Global, graph: &Graph, marks: &[Mark]) -> Result<Vec<bool>,
 fn leveled_in_either(alloc: Global, marks: &[Mark], others: &[Mark]) -> Result<Vec<bool>, NoMemory>
     requires { length others.now ≡ length marks.now }
     ensures each { IfOk result (λ flags. length flags.items ≡ length marks.now) }
-    ensures either { IfOk result (λ flags. (n : ℕ) → IsFlagged flags.items n → HasLevel marks.now n ⊎ HasLevel others.now n) }
+    ensures either { IfOk result (λ flags. (n : ℕ) → IsFlagged flags.items n
+        → HasLevel marks.now n ⊎ HasLevel others.now n) }
 {
     let mut flags = Vec::new(alloc);
     for number in 0..marks.len() {
@@ -98,7 +97,7 @@ fn is_either_leveled(mark: Mark, other: Mark) -> bool
 fn first_cycle(
     alloc: Global,
     rules: &RuleList,
-    names: &Names<'_>,
+    names: &Names,
     graph: &Graph,
     off: &[bool],
 ) -> Result<Text, NoMemory>

@@ -1,5 +1,6 @@
 -- What is answered of a source.
 use Rattle.std.specs.Prelude.{◌≡◌, ℕ, ◌+◌, ◌<◌, ◌⊎◌, Bool, true, false, List, [], ◌∷◌, ◌++◌, length, flat_map, count_by, Ok}
+use Rattle.nf_core.specs.declared.limits.TheConstants.{MOST_OPERATORS, MOST_OPEN}
 use Rattle.nf_core.specs.declared.trees.Entry.{Entry}
 use Rattle.nf_core.specs.declared.trees.Rule.{Rule}
 use Rattle.nf_core.specs.declared.trees.Module.{Module}
@@ -10,13 +11,6 @@ use Rattle.nf_parse.specs.declared.symbol.Sym.TheVariants as sym
 use Rattle.nf_parse.specs.State.{Word, state, words_of}
 use Rattle.nf_parse.specs.Grammar.{File}
 
--- the limits of one expression: parentheses that are open at once, and operators
-abbrev pub most_open : ℕ
-most_open = 64
-
-abbrev pub most_operators : ℕ
-most_operators = 256
-
 -- these words are a word of `file` that gives these modules, where no expression has more than so many parentheses open at once or more than so many operators
 abbrev pub IsFileWithin : ℕ → ℕ → List Word → List Module → Type 0
 IsFileWithin depth operators words modules = File depth (state operators words) modules (state operators [])
@@ -25,7 +19,7 @@ IsFileWithin depth operators words modules = File depth (state operators words) 
 pub record Spells (source : List ℕ) (modules : List Module) : Type 0 where
   pub tokens : List Token
   pub divides : Divides source 0 (Ok tokens)
-  pub file : IsFileWithin most_open most_operators (words_of source tokens) modules
+  pub file : IsFileWithin MOST_OPEN MOST_OPERATORS (words_of source tokens) modules
 
 -- the rules of modules, in order
 abbrev pub rules_in : List Module → List Rule
@@ -112,5 +106,5 @@ pub record IsPassed (depth operators : ℕ) (words : List Word) : Type 0 where
 pub record IsTooDeep (source : List ℕ) : Type 0 where
   pub tokens : List Token
   pub divides : Divides source 0 (Ok tokens)
-  pub none : (modules : List Module) → IsFileWithin most_open most_operators (words_of source tokens) modules → ⊥
-  pub passed : IsPassed most_open most_operators (words_of source tokens)
+  pub none : (modules : List Module) → IsFileWithin MOST_OPEN MOST_OPERATORS (words_of source tokens) modules → ⊥
+  pub passed : IsPassed MOST_OPEN MOST_OPERATORS (words_of source tokens)

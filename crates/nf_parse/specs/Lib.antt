@@ -2,10 +2,5 @@ pub mod State
 pub mod Combinators
 pub mod Grammar
 pub mod Answers
-pub mod Parsers
-pub mod Reading
-pub mod Parts
-pub mod RuleReading
 pub mod Parses
-pub mod FileReading
-pub mod Lexical
+pub mod inner

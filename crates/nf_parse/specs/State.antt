@@ -8,7 +8,7 @@ use Rattle.nf_lex.specs.Layout.{text_of}
 use Rattle.nf_parse.specs.declared.symbol.Sym.{Sym}
 use Rattle.nf_parse.specs.declared.symbol.Sym.TheVariants as sym
 
--- the keywords
+-- what the keywords of nf_core are to the grammar
 abbrev pub keywords : List (List ℕ × Sym)
 keywords =
     (codes "module", sym.Module) ∷ (codes "import", sym.Import) ∷ (codes "where", sym.Where) ∷ (codes "map", sym.Map) ∷ (codes "begin", sym.Begin) ∷ (codes "end", sym.End)
@@ -16,7 +16,7 @@ keywords =
     ∷ (codes "start", sym.Start) ∷ (codes "finish", sym.Finish) ∷ (codes "overlap", sym.Overlap) ∷ (codes "slice", sym.Slice)
     ∷ (codes "after", sym.After) ∷ (codes "follow", sym.Follow) ∷ (codes "contain", sym.Contain) ∷ (codes "true", sym.True) ∷ (codes "false", sym.False) ∷ []
 
--- the marks
+-- what the marks of nf_lex are to the grammar
 abbrev pub marks : List (List ℕ × Sym)
 marks =
     (codes ":-", sym.Defines) ∷ (codes "->", sym.Arrow) ∷ (codes "<=", sym.LessEqual) ∷ (codes ">=", sym.GreaterEqual) ∷ (codes "!=", sym.NotEqual)
@@ -24,6 +24,10 @@ marks =
     ∷ (codes "+", sym.Plus) ∷ (codes "-", sym.Minus) ∷ (codes "*", sym.Star) ∷ (codes "/", sym.Slash) ∷ (codes "%", sym.Percent)
     ∷ (codes "(", sym.Open) ∷ (codes ")", sym.Close) ∷ (codes "{", sym.OpenBrace) ∷ (codes "}", sym.CloseBrace)
     ∷ (codes ",", sym.Comma) ∷ (codes ";", sym.Semicolon) ∷ (codes ".", sym.Dot) ∷ (codes ":", sym.Colon) ∷ []
+
+-- the words that a table has
+abbrev pub words_in : List (List ℕ × Sym) → List (List ℕ)
+words_in table = map (λ (entry : List ℕ × Sym). entry.0) table
 
 -- what bytes are in a table of words; no keyword and no mark is missing there
 abbrev pub sym_in : List (List ℕ × Sym) → List ℕ → Sym

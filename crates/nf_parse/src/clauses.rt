@@ -1,32 +1,25 @@
 //! The reader of the clauses of a rule.
 
-ghost use Rattle.std.specs.Prelude.{◌≡◌, ◌≤◌, ◌<◌, length, [], IfOk, OnOk, All, IfSome, unwrap_or};
-ghost use Rattle.nf_core.specs.Trees.{tree, IsWithinLimits};
-ghost use Rattle.nf_core.specs.declared.trees.Entry.{Entry};
-ghost use Rattle.nf_parse.specs.declared.symbol.Sym.TheVariants as sym;
-ghost use Rattle.nf_parse.specs.Answers.{most_operators};
-ghost use Rattle.nf_parse.specs.Parsers.{Reads, IsWithin, whole, after};
-ghost use Rattle.nf_parse.specs.Parts as parts;
-ghost use Rattle.nf_parse.specs.RuleReading as spec;
+ghost use Rattle.std.specs.Prelude.{◌≡◌, ◌≤◌, [], IfOk, OnOk, All, IfSome, unwrap_or};
+ghost use Rattle.nf_parse.specs.inner.Parsers.{Reads, TookWord, IsWithin, whole};
+ghost use Rattle.nf_parse.specs.inner.Limited.{IsLimited, HasLimitedValue};
+ghost use Rattle.nf_parse.specs.inner.RuleReading as spec;
 
 use crate::expressions::expression;
 use crate::fault::Halt;
 use crate::literals::name_of;
 use crate::reader::Reader;
 use crate::symbol::Sym;
-use nf_core::{Entry, EntryList, Expr, ListOf, trees_by_parts};
+use nf_core::{Entry, EntryList, Expr, ListOf, MOST_OPEN, MOST_OPERATORS, trees_by_parts};
 use std::alloc::Global;
 
-/// How many parentheses may be open at once in an expression.
-const MOST_OPEN: usize = 64;
-
 /// An expression by itself: what stands behind it may have as many operators.
-#[tactic(auto, unfolding(crate::specs::RuleReading::limited, crate::specs::Parsers::whole))]
+#[tactic(auto, unfolding(crate::specs::inner::RuleReading::limited, crate::specs::inner::Parsers::whole))]
 fn whole(alloc: Global, reader: &mut Reader<'_>) -> Result<Expr, Halt>
-    requires { reader.old.operators ≤ most_operators }
+    requires { reader.old.operators ≤ MOST_OPERATORS }
     ensures reads { Reads (whole spec.limited reader.old) result reader.new }
     ensures within { IsWithin reader.old reader.new }
-    ensures limits { IfOk result (λ x. IsWithinLimits (tree x)) }
+    ensures limits { IfOk result IsLimited }
 {
     trees_by_parts();
     let operators = reader.operators();
@@ -36,29 +29,29 @@ fn whole(alloc: Global, reader: &mut Reader<'_>) -> Result<Expr, Halt>
 }
 
 /// A keyword and its expression.
-#[tactic(auto, unfolding(crate::specs::RuleReading::clause))]
+#[tactic(auto, unfolding(crate::specs::inner::RuleReading::clause))]
 pub(crate) fn clause(alloc: Global, word: Sym, reader: &mut Reader<'_>) -> Result<Expr, Halt>
-    requires { reader.old.operators ≤ most_operators }
+    requires { reader.old.operators ≤ MOST_OPERATORS }
     ensures reads { Reads (spec.clause spec.limited word reader.old) result reader.new }
     ensures within { IsWithin reader.old reader.new }
-    ensures shorter { OnOk result (length reader.new.words < length reader.old.words) }
-    ensures limits { IfOk result (λ x. IsWithinLimits (tree x)) }
+    ensures shorter { OnOk result (TookWord reader.old reader.new) }
+    ensures limits { IfOk result IsLimited }
 {
     reader.skip(word)?;
     whole(alloc, reader)
 }
 
 /// A keyword and its expression, where the keyword comes next.
-#[tactic(auto, unfolding(crate::specs::Parts::optional))]
+#[tactic(auto, unfolding(crate::specs::inner::Parts::optional))]
 pub(crate) fn optional_clause(
     alloc: Global,
     word: Sym,
     reader: &mut Reader<'_>,
 ) -> Result<Option<Expr>, Halt>
-    requires { reader.old.operators ≤ most_operators }
-    ensures reads { Reads (parts.optional word (spec.clause spec.limited word) reader.old) result reader.new }
+    requires { reader.old.operators ≤ MOST_OPERATORS }
+    ensures reads { Reads (spec.optional_clause spec.limited word reader.old) result reader.new }
     ensures within { IsWithin reader.old reader.new }
-    ensures limits { IfOk result (λ x. IfSome x (λ x. IsWithinLimits (tree x))) }
+    ensures limits { IfOk result (λ x. IfSome x IsLimited) }
 {
     if reader.is_at(word) {
         Ok(Some(clause(alloc, word, reader)?))
@@ -68,13 +61,13 @@ pub(crate) fn optional_clause(
 }
 
 /// An entry of a map.
-#[tactic(auto, unfolding(crate::specs::RuleReading::entry))]
+#[tactic(auto, unfolding(crate::specs::inner::RuleReading::entry))]
 fn entry(alloc: Global, reader: &mut Reader<'_>) -> Result<Entry, Halt>
-    requires { reader.old.operators ≤ most_operators }
+    requires { reader.old.operators ≤ MOST_OPERATORS }
     ensures reads { Reads (spec.entry spec.limited reader.old) result reader.new }
     ensures within { IsWithin reader.old reader.new }
-    ensures shorter { OnOk result (length reader.new.words < length reader.old.words) }
-    ensures limits { IfOk result (λ entry. IsWithinLimits (tree entry.value)) }
+    ensures shorter { OnOk result (TookWord reader.old reader.new) }
+    ensures limits { IfOk result HasLimitedValue }
 {
     let key = reader.take(Sym::Ident)?;
     let key = name_of(alloc, key)?;
@@ -84,23 +77,22 @@ fn entry(alloc: Global, reader: &mut Reader<'_>) -> Result<Entry, Halt>
 
 /// An entry of a map behind a comma.
 fn next_entry(alloc: Global, reader: &mut Reader<'_>) -> Result<Entry, Halt>
-    requires { reader.old.operators ≤ most_operators }
-    ensures reads { Reads (parts.next_part sym.Comma (spec.entry spec.limited) reader.old) result reader.new }
+    requires { reader.old.operators ≤ MOST_OPERATORS }
+    ensures reads { Reads (spec.next_entry spec.limited reader.old) result reader.new }
     ensures within { IsWithin reader.old reader.new }
-    ensures shorter { OnOk result (length reader.new.words < length reader.old.words) }
-    ensures limits { IfOk result (λ entry. IsWithinLimits (tree entry.value)) }
+    ensures shorter { OnOk result (TookWord reader.old reader.new) }
+    ensures limits { IfOk result HasLimitedValue }
 {
     reader.skip(Sym::Comma)?;
     entry(alloc, reader)
 }
 
 /// Entries of a map with commas between them.
-
 fn entry_list(alloc: Global, reader: &mut Reader<'_>) -> Result<EntryList, Halt>
-    requires { reader.old.operators ≤ most_operators }
-    ensures reads { Reads (parts.separated sym.Comma (spec.entry spec.limited) reader.old) result reader.new }
+    requires { reader.old.operators ≤ MOST_OPERATORS }
+    ensures reads { Reads (spec.entry_list spec.limited reader.old) result reader.new }
     ensures within { IsWithin reader.old reader.new }
-    ensures limits { IfOk result (All (λ (entry : Entry). IsWithinLimits (tree entry.value))) }
+    ensures limits { IfOk result (All HasLimitedValue) }
 {
     let first = entry(alloc, reader)?;
     let mut entries = EntryList::new(alloc);
@@ -113,12 +105,12 @@ fn entry_list(alloc: Global, reader: &mut Reader<'_>) -> Result<EntryList, Halt>
 }
 
 /// The entries of a map, between braces.
-#[tactic(auto, unfolding(crate::specs::Parts::optional))]
+#[tactic(auto, unfolding(crate::specs::inner::Parts::optional))]
 fn inner_entries(alloc: Global, reader: &mut Reader<'_>) -> Result<Option<EntryList>, Halt>
-    requires { reader.old.operators ≤ most_operators }
-    ensures reads { Reads (parts.optional sym.Ident (parts.separated sym.Comma (spec.entry spec.limited)) reader.old) result reader.new }
+    requires { reader.old.operators ≤ MOST_OPERATORS }
+    ensures reads { Reads (spec.inner_entries spec.limited reader.old) result reader.new }
     ensures within { IsWithin reader.old reader.new }
-    ensures limits { IfOk result (λ entries. IfSome entries (All (λ (entry : Entry). IsWithinLimits (tree entry.value)))) }
+    ensures limits { IfOk result (λ entries. IfSome entries (All HasLimitedValue)) }
 {
     if reader.is_at(Sym::Ident) {
         Ok(Some(entry_list(alloc, reader)?))
@@ -138,12 +130,12 @@ pub(crate) fn or_empty<T: Drop>(alloc: Global, list: Option<ListOf<T>>) -> ListO
 }
 
 /// A map: its entries between braces.
-#[tactic(auto, using(crate::proofs::PartSteps::all_or_empty), unfolding(crate::specs::RuleReading::entries))]
+#[tactic(auto, using(crate::proofs::PartStepLemmas::all_or_empty), unfolding(crate::specs::inner::RuleReading::entries))]
 fn entries(alloc: Global, reader: &mut Reader<'_>) -> Result<EntryList, Halt>
-    requires { reader.old.operators ≤ most_operators }
+    requires { reader.old.operators ≤ MOST_OPERATORS }
     ensures reads { Reads (spec.entries spec.limited reader.old) result reader.new }
     ensures within { IsWithin reader.old reader.new }
-    ensures limits { IfOk result (All (λ (entry : Entry). IsWithinLimits (tree entry.value))) }
+    ensures limits { IfOk result (All HasLimitedValue) }
 {
     reader.skip(Sym::Map)?;
     reader.skip(Sym::OpenBrace)?;
@@ -153,15 +145,15 @@ fn entries(alloc: Global, reader: &mut Reader<'_>) -> Result<EntryList, Halt>
 }
 
 /// A map, where one comes next.
-#[tactic(auto, unfolding(crate::specs::Parts::optional))]
+#[tactic(auto, unfolding(crate::specs::inner::Parts::optional))]
 pub(crate) fn optional_entries(
     alloc: Global,
     reader: &mut Reader<'_>,
 ) -> Result<Option<EntryList>, Halt>
-    requires { reader.old.operators ≤ most_operators }
-    ensures reads { Reads (parts.optional sym.Map (spec.entries spec.limited) reader.old) result reader.new }
+    requires { reader.old.operators ≤ MOST_OPERATORS }
+    ensures reads { Reads (spec.optional_entries spec.limited reader.old) result reader.new }
     ensures within { IsWithin reader.old reader.new }
-    ensures limits { IfOk result (λ entries. IfSome entries (All (λ (entry : Entry). IsWithinLimits (tree entry.value)))) }
+    ensures limits { IfOk result (λ entries. IfSome entries (All HasLimitedValue)) }
 {
     if reader.is_at(Sym::Map) {
         Ok(Some(entries(alloc, reader)?))

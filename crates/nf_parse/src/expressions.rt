@@ -1,10 +1,8 @@
 //! The reader of expressions.
 
-ghost use Rattle.std.specs.Prelude.{◌<◌, length, IfOk};
-ghost use Rattle.nf_core.specs.declared.trees.Expr.TheVariants as e;
-ghost use Rattle.nf_parse.specs.Grammar as grammar;
-ghost use Rattle.nf_parse.specs.Parsers.{Reads, IsWithin, in_table, and_then, done, operator};
-ghost use Rattle.nf_parse.specs.Reading as spec;
+ghost use Rattle.std.specs.Prelude.{◌<◌, OnOk};
+ghost use Rattle.nf_parse.specs.inner.Parsers.{Reads, TookWord, IsWithin};
+ghost use Rattle.nf_parse.specs.inner.Reading as spec;
 
 use crate::fault::Halt;
 use crate::level::Level;
@@ -27,7 +25,7 @@ pub(crate) fn expression(alloc: Global, depth: usize, reader: &mut Reader<'_>) -
 /// Operands with operators of a level between them, left associative.
 #[cycle(parser)]
 fn chain(alloc: Global, level: Level, depth: usize, reader: &mut Reader<'_>) -> Result<Expr, Halt>
-    ensures reads { Reads (spec.chain (grammar.op_at level) (spec.operand (spec.paren depth) level) reader.old) result reader.new }
+    ensures reads { Reads (spec.chain_at (spec.paren depth) level reader.old) result reader.new }
     ensures within { IsWithin reader.old reader.new }
 {
     let mut left = operand(alloc, level, depth, reader)?;
@@ -62,10 +60,11 @@ fn right_of(
     depth: usize,
     reader: &mut Reader<'_>,
 ) -> Result<Expr, Halt>
-    ensures reads { Reads (and_then operator (λ word. and_then (spec.operand (spec.paren depth) level) (λ right. done (e.Bin op left right))) reader.old) result reader.new }
+    ensures reads { Reads (spec.right_at (spec.paren depth) level left op reader.old)
+        result reader.new }
     ensures within { IsWithin reader.old reader.new }
-    ensures shorter { IfOk result (λ _. length reader.new.words < length reader.old.words) }
-    ensures fewer { IfOk result (λ _. reader.new.operators < reader.old.operators) }
+    ensures shorter { OnOk result (TookWord reader.old reader.new) }
+    ensures fewer { OnOk result (reader.new.operators < reader.old.operators) }
 {
     reader.operator()?;
     let right = operand(alloc, level, depth, reader)?;
@@ -74,7 +73,7 @@ fn right_of(
 
 /// A sum, or two with a comparison between them.
 #[cycle(parser)]
-#[tactic(auto, unfolding(crate::specs::Reading::single))]
+#[tactic(auto, unfolding(crate::specs::inner::Reading::single))]
 fn comparison(alloc: Global, depth: usize, reader: &mut Reader<'_>) -> Result<Expr, Halt>
     ensures reads { Reads (spec.comparison (spec.paren depth) reader.old) result reader.new }
     ensures within { IsWithin reader.old reader.new }
@@ -88,9 +87,9 @@ fn comparison(alloc: Global, depth: usize, reader: &mut Reader<'_>) -> Result<Ex
 
 /// An operand behind any number of signs.
 #[cycle(parser)]
-#[tactic(auto, using(crate::proofs::Loops::unary_minus, crate::proofs::Loops::unary_bang, crate::proofs::Loops::unary_other))]
+#[tactic(auto, using(crate::proofs::OperandLoopLemmas::unary_minus, crate::proofs::OperandLoopLemmas::unary_bang, crate::proofs::OperandLoopLemmas::unary_other))]
 fn unary(alloc: Global, depth: usize, reader: &mut Reader<'_>) -> Result<Expr, Halt>
-    ensures reads { Reads (spec.unary (spec.primary (spec.paren depth)) reader.old) result reader.new }
+    ensures reads { Reads (spec.signed (spec.paren depth) reader.old) result reader.new }
     ensures within { IsWithin reader.old reader.new }
 {
     match reader.next() {
@@ -110,7 +109,7 @@ fn unary(alloc: Global, depth: usize, reader: &mut Reader<'_>) -> Result<Expr, H
 
 /// An operand without operators, by its first word.
 #[cycle(parser)]
-#[tactic(auto, unfolding(crate::specs::Reading::primary))]
+#[tactic(auto, unfolding(crate::specs::inner::Reading::primary))]
 fn primary(alloc: Global, depth: usize, reader: &mut Reader<'_>) -> Result<Expr, Halt>
     ensures reads { Reads (spec.primary (spec.paren depth) reader.old) result reader.new }
     ensures within { IsWithin reader.old reader.new }
@@ -138,7 +137,7 @@ fn primary(alloc: Global, depth: usize, reader: &mut Reader<'_>) -> Result<Expr,
 }
 
 /// A read of a key, of a begin or of an end under a label.
-#[tactic(auto, unfolding(crate::specs::Reading::read, crate::specs::Reading::member))]
+#[tactic(auto, unfolding(crate::specs::inner::Reading::read, crate::specs::inner::Reading::member))]
 fn read(alloc: Global, reader: &mut Reader<'_>) -> Result<Expr, Halt>
     ensures reads { Reads (spec.read reader.old) result reader.new }
     ensures within { IsWithin reader.old reader.new }
@@ -164,7 +163,7 @@ fn read(alloc: Global, reader: &mut Reader<'_>) -> Result<Expr, Halt>
 
 /// An expression between parentheses, of which at most so many are open at once.
 #[cycle(parser)]
-#[tactic(auto, using(crate::proofs::Steps::paren_zero, crate::proofs::Steps::paren_some, crate::proofs::Steps::token_refused))]
+#[tactic(auto, using(crate::proofs::StepLemmas::paren_zero, crate::proofs::StepLemmas::paren_some, crate::proofs::StepLemmas::token_refused))]
 fn paren(alloc: Global, depth: usize, reader: &mut Reader<'_>) -> Result<Expr, Halt>
     ensures reads { Reads (spec.paren depth reader.old) result reader.new }
     ensures within { IsWithin reader.old reader.new }

@@ -26,7 +26,7 @@ pub enum ParseFault {
 
 impl From<LexFault> for ParseFault {
     ghost use Rattle.std.specs.Prelude.{◌≡◌};
-    ghost use Rattle.nf_parse.specs.Lexical.{of_lexical};
+    ghost use Rattle.nf_parse.specs.inner.Lexical.{of_lexical};
 
     ghost from_gives = { λ error fault. fault ≡ of_lexical error };
 

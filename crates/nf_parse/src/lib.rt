@@ -3,12 +3,12 @@
 //! The rule is `Spells` in specs/Answers.antt: the tokens of a source, as nf_lex divides it, are a word
 //! of `File` in specs/Grammar.antt, which has the grammar production by production over the parts of
 //! specs/Combinators.antt, within the two limits of an expression. `parse` gives the modules that such
-//! a source spells, as trees of nf_core. The printer and the reader of whole specifications stand above it.
+//! a source spells, as trees of nf_core. Its limits, its keywords and the words of its operators are those
+//! of nf_core, its marks those of nf_lex, as the laws say. The printer and the reader of whole
+//! specifications stand above it.
 #![tactic(auto)]
 
 mod clauses;
-#[cfg(test)]
-mod expression_tests;
 mod expressions;
 mod fault;
 mod laws;
@@ -19,12 +19,12 @@ mod operators;
 mod parsing;
 mod places;
 mod reader;
-#[cfg(test)]
-mod rule_tests;
 mod rules;
 mod symbol;
-mod symbols;
+mod token_symbols;
 
 pub use fault::ParseFault;
-pub use laws::{every_source_is_answered, one_reading};
+pub use laws::{
+    every_operator_has_its_word, every_source_is_answered, every_word_has_a_kind, one_reading,
+};
 pub use parsing::parse;

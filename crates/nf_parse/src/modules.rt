@@ -1,12 +1,9 @@
 //! The reader of modules and of files.
 
-ghost use Rattle.std.specs.Prelude.{◌≡◌, ◌≢◌, ◌≤◌, ◌<◌, length, OnOk, None};
+ghost use Rattle.std.specs.Prelude.{◌≤◌, OnOk};
 ghost use Rattle.nf_parse.specs.declared.symbol.Sym.TheVariants as sym;
-ghost use Rattle.nf_parse.specs.Answers.{most_operators};
-ghost use Rattle.nf_parse.specs.State.{next};
-ghost use Rattle.nf_parse.specs.Parsers.{Reads, IsWithin, token};
-ghost use Rattle.nf_parse.specs.Parts as parts;
-ghost use Rattle.nf_parse.specs.RuleReading as spec;
+ghost use Rattle.nf_parse.specs.inner.Parsers.{Reads, TookWord, IsWithin, token};
+ghost use Rattle.nf_parse.specs.inner.RuleReading as spec;
 
 use crate::clauses::or_empty;
 use crate::fault::Halt;
@@ -14,14 +11,14 @@ use crate::literals::name_of;
 use crate::reader::Reader;
 use crate::rules::{rules, run_of_rules};
 use crate::symbol::Sym;
-use nf_core::{Module, ModuleList, Text, TextList};
+use nf_core::{MOST_OPERATORS, Module, ModuleList, Text, TextList};
 use std::alloc::Global;
 
 /// A name.
 fn name(alloc: Global, reader: &mut Reader<'_>) -> Result<Text, Halt>
     ensures reads { Reads (token sym.Ident reader.old) result reader.new }
     ensures within { IsWithin reader.old reader.new }
-    ensures shorter { OnOk result (length reader.new.words < length reader.old.words) }
+    ensures shorter { OnOk result (TookWord reader.old reader.new) }
 {
     let word = reader.take(Sym::Ident)?;
     Ok(name_of(alloc, word)?)
@@ -29,9 +26,9 @@ fn name(alloc: Global, reader: &mut Reader<'_>) -> Result<Text, Halt>
 
 /// A name behind a comma.
 fn next_name(alloc: Global, reader: &mut Reader<'_>) -> Result<Text, Halt>
-    ensures reads { Reads (parts.next_part sym.Comma (token sym.Ident) reader.old) result reader.new }
+    ensures reads { Reads (spec.next_name reader.old) result reader.new }
     ensures within { IsWithin reader.old reader.new }
-    ensures shorter { OnOk result (length reader.new.words < length reader.old.words) }
+    ensures shorter { OnOk result (TookWord reader.old reader.new) }
 {
     reader.skip(Sym::Comma)?;
     name(alloc, reader)
@@ -39,7 +36,7 @@ fn next_name(alloc: Global, reader: &mut Reader<'_>) -> Result<Text, Halt>
 
 /// Names with commas between them.
 fn name_list(alloc: Global, reader: &mut Reader<'_>) -> Result<TextList, Halt>
-    ensures reads { Reads (parts.separated sym.Comma (token sym.Ident) reader.old) result reader.new }
+    ensures reads { Reads (spec.name_list reader.old) result reader.new }
     ensures within { IsWithin reader.old reader.new }
 {
     let first = name(alloc, reader)?;
@@ -53,7 +50,7 @@ fn name_list(alloc: Global, reader: &mut Reader<'_>) -> Result<TextList, Halt>
 }
 
 /// The names that a module imports.
-#[tactic(auto, unfolding(crate::specs::RuleReading::imports))]
+#[tactic(auto, unfolding(crate::specs::inner::RuleReading::imports))]
 fn imports(alloc: Global, reader: &mut Reader<'_>) -> Result<TextList, Halt>
     ensures reads { Reads (spec.imports reader.old) result reader.new }
     ensures within { IsWithin reader.old reader.new }
@@ -65,9 +62,9 @@ fn imports(alloc: Global, reader: &mut Reader<'_>) -> Result<TextList, Halt>
 }
 
 /// The names that a module imports, where `import` comes next.
-#[tactic(auto, unfolding(crate::specs::Parts::optional))]
+#[tactic(auto, unfolding(crate::specs::inner::Parts::optional))]
 fn optional_imports(alloc: Global, reader: &mut Reader<'_>) -> Result<Option<TextList>, Halt>
-    ensures reads { Reads (parts.optional sym.Import spec.imports reader.old) result reader.new }
+    ensures reads { Reads (spec.optional_imports reader.old) result reader.new }
     ensures within { IsWithin reader.old reader.new }
 {
     if reader.is_at(Sym::Import) {
@@ -78,12 +75,12 @@ fn optional_imports(alloc: Global, reader: &mut Reader<'_>) -> Result<Option<Tex
 }
 
 /// A module with a name.
-#[tactic(auto, unfolding(crate::specs::RuleReading::module_word))]
+#[tactic(auto, unfolding(crate::specs::inner::RuleReading::module_word))]
 fn module(alloc: Global, reader: &mut Reader<'_>) -> Result<Module, Halt>
-    requires { reader.old.operators ≤ most_operators }
+    requires { reader.old.operators ≤ MOST_OPERATORS }
     ensures reads { Reads (spec.module_word spec.limited reader.old) result reader.new }
     ensures within { IsWithin reader.old reader.new }
-    ensures shorter { OnOk result (length reader.new.words < length reader.old.words) }
+    ensures shorter { OnOk result (TookWord reader.old reader.new) }
 {
     reader.skip(Sym::Module)?;
     let name = name(alloc, reader)?;
@@ -99,12 +96,12 @@ fn module(alloc: Global, reader: &mut Reader<'_>) -> Result<Module, Halt>
 }
 
 /// A module: the one that stands here, or the run of rules here.
-#[tactic(auto, unfolding(crate::specs::Parts::choose, crate::specs::RuleReading::part))]
+#[tactic(auto, unfolding(crate::specs::inner::Parts::choose, crate::specs::inner::RuleReading::part))]
 fn part(alloc: Global, reader: &mut Reader<'_>) -> Result<Module, Halt>
-    requires { reader.old.operators ≤ most_operators }
+    requires { reader.old.operators ≤ MOST_OPERATORS }
     ensures reads { Reads (spec.part spec.limited reader.old) result reader.new }
     ensures within { IsWithin reader.old reader.new }
-    ensures shorter { OnOk result (length reader.new.words < length reader.old.words) }
+    ensures shorter { OnOk result (TookWord reader.old reader.new) }
 {
     if reader.is_at(Sym::Ident) {
         run_of_rules(alloc, reader)
@@ -115,7 +112,7 @@ fn part(alloc: Global, reader: &mut Reader<'_>) -> Result<Module, Halt>
 
 /// The modules of a file, up to the end of the words.
 pub(crate) fn file(alloc: Global, reader: &mut Reader<'_>) -> Result<ModuleList, Halt>
-    requires { reader.old.operators ≤ most_operators }
+    requires { reader.old.operators ≤ MOST_OPERATORS }
     ensures reads { Reads (spec.file spec.limited reader.old) result reader.new }
 {
     let mut modules = ModuleList::new(alloc);

@@ -1,16 +1,16 @@
 //! The reader of tokens.
 
-ghost use Rattle.std.specs.Prelude.{◌≡◌, ◌+◌, ◌≤◌, ◌<◌, length, IfOk, IfErr, OnOk, Ok, Some, All};
+ghost use Rattle.std.specs.Prelude.{◌≡◌, ◌+◌, ◌<◌, length, IfOk, IfErr, OnOk, Ok, Some, All};
 ghost use Rattle.nf_parse.specs.declared.symbol.Sym.{Sym};
 ghost use Rattle.nf_lex.specs.Layout.{IsTokenOf};
 ghost use Rattle.nf_parse.specs.declared.fault.Halt.TheVariants as halt;
 ghost use Rattle.nf_parse.specs.declared.fault.Fault.TheVariants as fault;
 ghost use Rattle.nf_parse.specs.State.{state, words_of, next, Word};
-ghost use Rattle.nf_parse.specs.Parsers as spec;
+ghost use Rattle.nf_parse.specs.inner.Parsers as spec;
 
 use crate::fault::{Fault, Halt};
 use crate::symbol::Sym;
-use crate::symbols::first_sym;
+use crate::token_symbols::first_sym;
 use nf_lex::Token;
 use nf_text::slice;
 use std::marker::Model;
@@ -115,13 +115,13 @@ impl<'a> Reader<'a> {
     }
 
     /// The bytes of the next word, which has to be of this kind. Otherwise nothing is read.
-    #[tactic(auto, using(crate::proofs::Steps::token_read, crate::proofs::Steps::token_refused))]
+    #[tactic(auto, using(crate::proofs::StepLemmas::token_read, crate::proofs::StepLemmas::token_refused))]
     pub(crate) fn take(&mut self, kind: Sym) -> Result<&'a [u8], Halt>
         ensures reads { IfOk result (λ bytes. spec.token kind self.old ≡ Ok (bytes.now, self.new)) }
         ensures stops { IfErr result (spec.Stops (spec.token kind self.old)) }
         ensures sound { IfOk result (λ bytes. spec.IsSound kind bytes.now) }
         ensures within { spec.IsWithin self.old self.new }
-        ensures shorter { IfOk result (λ _. length self.new.words < length self.old.words) }
+        ensures shorter { OnOk result (spec.TookWord self.old self.new) }
     {
         if self.is_at(kind) {
             Ok(self.advance())
@@ -131,12 +131,12 @@ impl<'a> Reader<'a> {
     }
 
     /// Goes past the next word, which has to be of this kind. Otherwise nothing is read.
-    #[tactic(auto, using(crate::proofs::Steps::token_read, crate::proofs::Steps::token_refused))]
+    #[tactic(auto, using(crate::proofs::StepLemmas::token_read, crate::proofs::StepLemmas::token_refused))]
     pub(crate) fn skip(&mut self, kind: Sym) -> Result<(), Halt>
-        ensures reads { OnOk result (spec.token kind self.old ≡ Ok (spec.bytes_of self.old.words, self.new)) }
+        ensures reads { OnOk result (spec.GoesPast (spec.token kind) self.old self.new) }
         ensures stops { IfErr result (spec.Stops (spec.token kind self.old)) }
         ensures within { spec.IsWithin self.old self.new }
-        ensures shorter { OnOk result (length self.new.words < length self.old.words) }
+        ensures shorter { OnOk result (spec.TookWord self.old self.new) }
     {
         if self.is_at(kind) {
             self.advance();
@@ -147,12 +147,12 @@ impl<'a> Reader<'a> {
     }
 
     /// Goes past the next word as an operator. Where no more may be read, nothing is.
-    #[tactic(auto, using(crate::proofs::Steps::operator_read, crate::proofs::Steps::operator_full, crate::proofs::Steps::operator_refused))]
+    #[tactic(auto, using(crate::proofs::StepLemmas::operator_read, crate::proofs::StepLemmas::operator_full, crate::proofs::StepLemmas::operator_refused))]
     pub(crate) fn operator(&mut self) -> Result<(), Halt>
-        ensures reads { OnOk result (spec.operator self.old ≡ Ok (spec.bytes_of self.old.words, self.new)) }
+        ensures reads { OnOk result (spec.GoesPast spec.operator self.old self.new) }
         ensures stops { IfErr result (spec.Stops (spec.operator self.old)) }
         ensures within { spec.IsWithin self.old self.new }
-        ensures shorter { OnOk result (length self.new.words < length self.old.words) }
+        ensures shorter { OnOk result (spec.TookWord self.old self.new) }
         ensures fewer { OnOk result (self.old.operators ≡ 1 + self.new.operators) }
     {
         let Some(_) = self.ahead else {

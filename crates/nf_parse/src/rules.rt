@@ -1,19 +1,19 @@
 //! The reader of rules.
 
-ghost use Rattle.std.specs.Prelude.{◌≡◌, ◌≤◌, ◌<◌, length, IfOk, OnOk, true};
+ghost use Rattle.std.specs.Prelude.{◌≡◌, ◌≤◌, OnOk, IfSome, IfNone, true};
 ghost use Rattle.nf_parse.specs.declared.symbol.Sym.TheVariants as sym;
-ghost use Rattle.nf_parse.specs.Answers.{most_operators};
 ghost use Rattle.nf_parse.specs.Grammar as grammar;
-ghost use Rattle.nf_parse.specs.Parsers.{Reads, IsWithin, after, token, in_table, is_at};
-ghost use Rattle.nf_parse.specs.Parts as parts;
-ghost use Rattle.nf_parse.specs.RuleReading as spec;
+ghost use Rattle.nf_parse.specs.State.{next};
+ghost use Rattle.nf_parse.specs.inner.Parsers.{Reads, TookWord, IsWithin, behind, in_table, is_at};
+ghost use Rattle.nf_parse.specs.inner.Parts as parts;
+ghost use Rattle.nf_parse.specs.inner.RuleReading as spec;
 
 use crate::clauses::{optional_clause, optional_entries, or_empty};
 use crate::fault::Halt;
 use crate::literals::name_of;
 use crate::reader::Reader;
 use crate::symbol::Sym;
-use nf_core::{Atom, Body, Module, Op, Rule, RuleList, Text, TextList, Xop};
+use nf_core::{Atom, Body, MOST_OPERATORS, Module, Op, Rule, RuleList, Text, TextList, Xop};
 use std::alloc::Global;
 
 /// The inclusive operator that a word is.
@@ -47,21 +47,20 @@ fn xop_of(next: Option<Sym>) -> Option<Xop>
     }
 }
 
-/// The inclusive operator that comes next.
-#[tactic(auto, using(crate::proofs::PartSteps::table_words), unfolding(crate::specs::Parts::one_of))]
-fn op(reader: &mut Reader<'_>) -> Result<Op, Halt>
-    ensures reads { Reads (parts.one_of grammar.op_of reader.old) result reader.new }
-    ensures within { IsWithin reader.old reader.new }
+/// The inclusive operator that comes next, where one does. Goes past it.
+#[tactic(auto, using(crate::proofs::PartStepLemmas::table_words))]
+fn op(reader: &mut Reader<'_>) -> Option<Op>
+    ensures is { result ≡ in_table grammar.op_of (next reader.old) }
+    ensures behind { IfSome result (λ _. reader.new ≡ behind reader.old) }
+    ensures stays { IfNone result (reader.new ≡ reader.old) }
 {
-    let Some(op) = op_of(reader.next()) else {
-        return Err(reader.refuse());
-    };
+    let op = op_of(reader.next())?;
     reader.advance();
-    Ok(op)
+    Some(op)
 }
 
 /// The exclusive operator that comes next.
-#[tactic(auto, using(crate::proofs::PartSteps::table_words), unfolding(crate::specs::Parts::one_of))]
+#[tactic(auto, using(crate::proofs::PartStepLemmas::table_words), unfolding(crate::specs::inner::Parts::one_of))]
 fn xop(reader: &mut Reader<'_>) -> Result<Xop, Halt>
     ensures reads { Reads (parts.one_of grammar.xop_of reader.old) result reader.new }
     ensures within { IsWithin reader.old reader.new }
@@ -74,9 +73,9 @@ fn xop(reader: &mut Reader<'_>) -> Result<Xop, Halt>
 }
 
 /// A `:` and a name, where a `:` comes next.
-#[tactic(auto, unfolding(crate::specs::Parts::optional))]
+#[tactic(auto, unfolding(crate::specs::inner::Parts::optional))]
 fn name_behind(alloc: Global, reader: &mut Reader<'_>) -> Result<Option<Text>, Halt>
-    ensures reads { Reads (parts.optional sym.Colon (after sym.Colon (token sym.Ident)) reader.old) result reader.new }
+    ensures reads { Reads (spec.name_behind reader.old) result reader.new }
     ensures within { IsWithin reader.old reader.new }
 {
     if reader.is_at(Sym::Colon) {
@@ -89,7 +88,7 @@ fn name_behind(alloc: Global, reader: &mut Reader<'_>) -> Result<Option<Text>, H
 }
 
 /// An atom: a name, or a label and a name.
-#[tactic(auto, unfolding(crate::specs::RuleReading::atom))]
+#[tactic(auto, unfolding(crate::specs::inner::RuleReading::atom))]
 fn atom(alloc: Global, reader: &mut Reader<'_>) -> Result<Atom, Halt>
     ensures reads { Reads (spec.atom reader.old) result reader.new }
     ensures within { IsWithin reader.old reader.new }
@@ -107,19 +106,8 @@ fn atom(alloc: Global, reader: &mut Reader<'_>) -> Result<Atom, Halt>
     }
 }
 
-/// An inclusive operator and an atom, behind a first one.
-#[tactic(auto, unfolding(crate::specs::RuleReading::pair))]
-fn pair(alloc: Global, first: Atom, reader: &mut Reader<'_>) -> Result<Body, Halt>
-    ensures reads { Reads (spec.pair first reader.old) result reader.new }
-    ensures within { IsWithin reader.old reader.new }
-{
-    let op = op(reader)?;
-    let second = atom(alloc, reader)?;
-    Ok(Body::Pair(first, op, second))
-}
-
 /// `unless`, an exclusive operator and an atom, behind a first one.
-#[tactic(auto, unfolding(crate::specs::RuleReading::exclusive))]
+#[tactic(auto, unfolding(crate::specs::inner::RuleReading::exclusive))]
 fn exclusive(alloc: Global, first: Atom, reader: &mut Reader<'_>) -> Result<Body, Halt>
     ensures reads { Reads (spec.exclusive first reader.old) result reader.new }
     ensures within { IsWithin reader.old reader.new }
@@ -131,13 +119,14 @@ fn exclusive(alloc: Global, first: Atom, reader: &mut Reader<'_>) -> Result<Body
 }
 
 /// What stands behind the first atom of a body.
-#[tactic(auto, unfolding(crate::specs::Parts::choose))]
+#[tactic(auto, using(crate::proofs::PartStepLemmas::pair_read), unfolding(crate::specs::inner::Parts::choose))]
 fn body_behind(alloc: Global, first: Atom, reader: &mut Reader<'_>) -> Result<Body, Halt>
     ensures reads { Reads (spec.body_behind first reader.old) result reader.new }
     ensures within { IsWithin reader.old reader.new }
 {
-    if op_of(reader.next()).is_some() {
-        pair(alloc, first, reader)
+    if let Some(op) = op(reader) {
+        let second = atom(alloc, reader)?;
+        Ok(Body::Pair(first, op, second))
     } else if reader.is_at(Sym::Unless) {
         exclusive(alloc, first, reader)
     } else {
@@ -146,7 +135,7 @@ fn body_behind(alloc: Global, first: Atom, reader: &mut Reader<'_>) -> Result<Bo
 }
 
 /// The body of a rule.
-#[tactic(auto, unfolding(crate::specs::RuleReading::rule_body))]
+#[tactic(auto, unfolding(crate::specs::inner::RuleReading::rule_body))]
 fn body(alloc: Global, reader: &mut Reader<'_>) -> Result<Body, Halt>
     ensures reads { Reads (spec.rule_body reader.old) result reader.new }
     ensures within { IsWithin reader.old reader.new }
@@ -156,12 +145,12 @@ fn body(alloc: Global, reader: &mut Reader<'_>) -> Result<Body, Halt>
 }
 
 /// A rule.
-#[tactic(auto, unfolding(crate::specs::RuleReading::rule))]
+#[tactic(auto, unfolding(crate::specs::inner::RuleReading::rule))]
 fn rule(alloc: Global, reader: &mut Reader<'_>) -> Result<Rule, Halt>
-    requires { reader.old.operators ≤ most_operators }
+    requires { reader.old.operators ≤ MOST_OPERATORS }
     ensures reads { Reads (spec.rule spec.limited reader.old) result reader.new }
     ensures within { IsWithin reader.old reader.new }
-    ensures shorter { OnOk result (length reader.new.words < length reader.old.words) }
+    ensures shorter { OnOk result (TookWord reader.old reader.new) }
 {
     let head = reader.take(Sym::Ident)?;
     let head = name_of(alloc, head)?;
@@ -182,12 +171,13 @@ fn rule(alloc: Global, reader: &mut Reader<'_>) -> Result<Rule, Halt>
 }
 
 /// The rules here, as long as one follows another.
-#[tactic(auto, using(crate::proofs::PartLists::list_start, crate::proofs::PartLists::list_more, crate::proofs::PartLists::list_stops, crate::proofs::PartLists::list_ends), unfolding(crate::specs::RuleReading::rules))]
+#[tactic(auto, using(crate::proofs::PartListLemmas::list_start, crate::proofs::PartListLemmas::list_more, crate::proofs::PartListLemmas::list_stops, crate::proofs::PartListLemmas::list_ends), unfolding(crate::specs::inner::RuleReading::rules))]
 pub(crate) fn rules(alloc: Global, reader: &mut Reader<'_>) -> Result<RuleList, Halt>
-    requires { reader.old.operators ≤ most_operators }
+    requires { reader.old.operators ≤ MOST_OPERATORS }
     ensures reads { Reads (spec.rules spec.limited reader.old) result reader.new }
     ensures within { IsWithin reader.old reader.new }
-    ensures shorter { is_at sym.Ident reader.old ≡ true → OnOk result (length reader.new.words < length reader.old.words) }
+    ensures shorter { is_at sym.Ident reader.old ≡ true
+        → OnOk result (TookWord reader.old reader.new) }
 {
     let mut rules = RuleList::new(alloc);
     'rules: while reader.is_at(Sym::Ident) {
@@ -199,10 +189,11 @@ pub(crate) fn rules(alloc: Global, reader: &mut Reader<'_>) -> Result<RuleList, 
 
 /// The rules here, as long as one follows another, as a module without name.
 pub(crate) fn run_of_rules(alloc: Global, reader: &mut Reader<'_>) -> Result<Module, Halt>
-    requires { reader.old.operators ≤ most_operators }
+    requires { reader.old.operators ≤ MOST_OPERATORS }
     ensures reads { Reads (spec.run_of_rules spec.limited reader.old) result reader.new }
     ensures within { IsWithin reader.old reader.new }
-    ensures shorter { is_at sym.Ident reader.old ≡ true → OnOk result (length reader.new.words < length reader.old.words) }
+    ensures shorter { is_at sym.Ident reader.old ≡ true
+        → OnOk result (TookWord reader.old reader.new) }
 {
     let rules = rules(alloc, reader)?;
     Ok(Module {

@@ -4,50 +4,12 @@ use Rattle.std.specs.Prelude.{ℕ, List, [], ◌∷◌, ◌++◌, codes, flat_ma
 use Rattle.std.specs.Fmt.{signed_decimal}
 use Rattle.nf_core.specs.Texts.{text_eq}
 use Rattle.nf_core.specs.Trees.{Tree, Bool, Int, Text, Start, Stop, Key, Neg, Not, Bin, Rule, tree, left_in_parens, right_in_parens, operand_in_parens}
-use Rattle.nf_core.specs.declared.operators.BinOp.{BinOp}
-use Rattle.nf_core.specs.declared.operators.BinOp.TheVariants as binary
-use Rattle.nf_core.specs.declared.operators.Op.{Op}
-use Rattle.nf_core.specs.declared.operators.Op.TheVariants as op
-use Rattle.nf_core.specs.declared.operators.Xop.{Xop}
-use Rattle.nf_core.specs.declared.operators.Xop.TheVariants as xop
+use Rattle.nf_core.specs.Spelling.{mark_of, word_of_op, word_of_xop}
 use Rattle.nf_core.specs.declared.trees.Expr.{Expr}
 use Rattle.nf_core.specs.declared.trees.Atom.{Atom}
 use Rattle.nf_core.specs.declared.trees.Body.{Body}
 use Rattle.nf_core.specs.declared.trees.Body.TheVariants as body
 use Rattle.nf_core.specs.declared.trees.Entry.{Entry}
-
--- the mark of a binary operator
-unfoldable pub mark_of : BinOp → List ℕ
-mark_of binary.Or = codes "|"
-mark_of binary.And = codes "&"
-mark_of binary.Eq = codes "="
-mark_of binary.Ne = codes "!="
-mark_of binary.Lt = codes "<"
-mark_of binary.Le = codes "<="
-mark_of binary.Gt = codes ">"
-mark_of binary.Ge = codes ">="
-mark_of binary.Add = codes "+"
-mark_of binary.Sub = codes "-"
-mark_of binary.Mul = codes "*"
-mark_of binary.Div = codes "/"
-mark_of binary.Rem = codes "%"
-
--- the keyword of an inclusive operator
-unfoldable pub word_of_op : Op → List ℕ
-word_of_op op.Before = codes "before"
-word_of_op op.Meet = codes "meet"
-word_of_op op.During = codes "during"
-word_of_op op.Coincide = codes "coincide"
-word_of_op op.Start = codes "start"
-word_of_op op.Finish = codes "finish"
-word_of_op op.Overlap = codes "overlap"
-word_of_op op.Slice = codes "slice"
-
--- the keyword of an exclusive operator
-unfoldable pub word_of_xop : Xop → List ℕ
-word_of_xop xop.After = codes "after"
-word_of_xop xop.Follow = codes "follow"
-word_of_xop xop.Contain = codes "contain"
 
 -- a text, between parentheses where it stands in them
 abbrev pub enclosed : prelude.Bool → List ℕ → List ℕ
@@ -90,10 +52,14 @@ clause_text word (Some x) = word ++ expression_text (tree x)
 abbrev pub entry_text : Entry → List ℕ
 entry_text entry = entry.key ++ codes " -> " ++ expression_text (tree entry.value)
 
+-- each entry after `, `
+abbrev pub others_text : List Entry → List ℕ
+others_text entries = flat_map (λ entry. codes ", " ++ entry_text entry) entries
+
 -- entries are ` map { k -> E, j -> E }`, and nothing where there is none
 abbrev pub map_text : List Entry → List ℕ
 map_text [] = []
-map_text (first ∷ others) = codes " map { " ++ entry_text first ++ flat_map (λ entry. codes ", " ++ entry_text entry) others ++ codes " }"
+map_text (first ∷ others) = codes " map { " ++ entry_text first ++ others_text others ++ codes " }"
 
 -- the canonical text of a rule is one line: `HEAD :- BODY`, then ` where E`, the entries, ` begin E` and ` end E` where present, and LF
 unfoldable pub canonical : Rule → List ℕ

@@ -2,7 +2,8 @@
 
 ghost use Rattle.std.specs.Prelude.{◌≡◌, ◌++◌, ◌∷◌, OnOk, codes};
 ghost use Rattle.nf_core.specs.Trees.{tree, level, op_level, left_in_parens, right_in_parens, operand_in_parens};
-ghost use Rattle.nf_print.specs.Canonical.{mark_of, expression_text, enclosed, minus_before};
+ghost use Rattle.nf_core.specs.Spelling.{mark_of};
+ghost use Rattle.nf_print.specs.Canonical.{expression_text, enclosed, minus_before};
 
 use crate::words::mark_of;
 use itoa::Buffer;
@@ -53,7 +54,8 @@ pub(crate) fn push_expression(expression: &Expr, lines: &mut Lines) -> Result<()
 /// them.
 #[cycle(printer)]
 fn push_operand(operand: &Expr, in_parens: bool, lines: &mut Lines) -> Result<(), NoMemory>
-    ensures { OnOk result (lines.new ≡ lines.old ++ enclosed in_parens (expression_text (tree operand.now))) }
+    ensures { OnOk result (lines.new
+        ≡ lines.old ++ enclosed in_parens (expression_text (tree operand.now))) }
 {
     if in_parens {
         lines.push(b"(")?;

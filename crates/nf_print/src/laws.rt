@@ -9,7 +9,8 @@ ghost use Rattle.nf_print.specs.Canonical.{canonical};
 /// The canonical line of a rule that can be written and is within the limits spells one module without
 /// name that holds this rule alone.
 pub fn canonical_lines_are_read()
-    ensures { (rule : Rule) → IsWritten rule → IsRule rule → Spells (canonical rule) (unnamed (rule ∷ []) ∷ []) }
+    ensures { (rule : Rule) → IsWritten rule → IsRule rule
+        → Spells (canonical rule) (unnamed (rule ∷ []) ∷ []) }
 {
     nf_core::trees_are_expressions();
     nf_text::plain_texts();

@@ -1,12 +1,11 @@
 //! The canonical text of a rule.
 
-ghost use Rattle.std.specs.Prelude.{◌≡◌, [], ◌∷◌, ◌++◌, codes, IfOk, OnOk, flat_map};
+ghost use Rattle.std.specs.Prelude.{◌≡◌, [], ◌∷◌, ◌++◌, IfOk, OnOk};
 ghost use Rattle.std.specs.Option.{option_copied};
 ghost use Rattle.nf_core.specs.Trees.{IsWritten, tree};
-ghost use Rattle.nf_core.specs.declared.trees.Entry.{Entry};
 ghost use Rattle.nf_parse.specs.Grammar.{unnamed};
 ghost use Rattle.nf_parse.specs.Answers.{Spells};
-ghost use Rattle.nf_print.specs.Canonical.{canonical, atom_text, body_text, clause_text, entry_text, map_text};
+ghost use Rattle.nf_print.specs.Canonical.{canonical, atom_text, body_text, clause_text, entry_text, others_text, map_text};
 
 use crate::expressions::push_expression;
 use crate::laws::canonical_lines_are_read;
@@ -77,7 +76,8 @@ fn push_atom(atom: &Atom, lines: &mut Lines) -> Result<(), NoMemory>
 /// Puts a clause at the end of other text, where there is one: the keyword with its spaces, and the
 /// expression.
 fn push_clause(word: &str, clause: Option<&Expr>, lines: &mut Lines) -> Result<(), NoMemory>
-    ensures { OnOk result (lines.new ≡ lines.old ++ clause_text word.now (option_copied clause.entry)) }
+    ensures { OnOk result (lines.new
+        ≡ lines.old ++ clause_text word.now (option_copied clause.entry)) }
 {
     match clause {
         None => Ok(()),
@@ -105,7 +105,7 @@ fn push_entries(entries: &[Entry], lines: &mut Lines) -> Result<(), NoMemory>
 
 /// Puts each entry at the end of other text, each after `, `.
 fn push_others(entries: &[Entry], lines: &mut Lines) -> Result<(), NoMemory>
-    ensures { OnOk result (lines.new ≡ lines.old ++ flat_map (λ (entry : Entry). codes ", " ++ entry_text entry) entries.now) }
+    ensures { OnOk result (lines.new ≡ lines.old ++ others_text entries.now) }
 {
     for entry in entries {
         lines.push(b", ")?;

@@ -1,12 +1,12 @@
 //! The words of operators.
 
 ghost use Rattle.std.specs.Prelude.{◌≡◌};
-ghost use Rattle.nf_print.specs.Canonical.{mark_of, word_of_op, word_of_xop};
+ghost use Rattle.nf_core.specs.Spelling.{mark_of, word_of_op, word_of_xop};
 
 use nf_core::{BinOp, Op, Xop};
 
-/// The mark of a binary operator (`mark_of` in specs/Canonical.antt).
-#[tactic(auto, unfolding(crate::specs::Canonical::mark_of))]
+/// The mark of a binary operator (`mark_of` of nf_core's specs/Spelling).
+#[tactic(auto, unfolding(nf_core::specs::Spelling::mark_of))]
 pub(crate) fn mark_of(operator: BinOp) -> &'static str
     ensures { result.now ≡ mark_of operator }
 {
@@ -27,8 +27,8 @@ pub(crate) fn mark_of(operator: BinOp) -> &'static str
     }
 }
 
-/// The keyword of an inclusive operator (`word_of_op` in specs/Canonical.antt).
-#[tactic(auto, unfolding(crate::specs::Canonical::word_of_op))]
+/// The keyword of an inclusive operator (`word_of_op` of nf_core's specs/Spelling).
+#[tactic(auto, unfolding(nf_core::specs::Spelling::word_of_op))]
 pub(crate) fn word_of_op(operator: Op) -> &'static str
     ensures { result.now ≡ word_of_op operator }
 {
@@ -44,8 +44,8 @@ pub(crate) fn word_of_op(operator: Op) -> &'static str
     }
 }
 
-/// The keyword of an exclusive operator (`word_of_xop` in specs/Canonical.antt).
-#[tactic(auto, unfolding(crate::specs::Canonical::word_of_xop))]
+/// The keyword of an exclusive operator (`word_of_xop` of nf_core's specs/Spelling).
+#[tactic(auto, unfolding(nf_core::specs::Spelling::word_of_xop))]
 pub(crate) fn word_of_xop(operator: Xop) -> &'static str
     ensures { result.now ≡ word_of_xop operator }
 {

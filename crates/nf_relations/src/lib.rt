@@ -7,7 +7,5 @@
 #![tactic(auto)]
 
 mod relations;
-#[cfg(test)]
-mod tests;
 
 pub use relations::{blocks, holds, span};

@@ -1,4 +1,4 @@
 pub mod Sources
 pub mod Specification
 pub mod Settled
-pub mod Parsing
+pub mod inner

@@ -1,12 +1,13 @@
 -- What the sources of a specification define, under a root or without one: a plan with the selected rules and the levels of their names, or one refusal.
-use Rattle.std.specs.Prelude.{◌≡◌, ℕ, suc, ◌<◌, ◌≤◌, List, [], ◌∷◌, map, Option, Some, None, Result, Ok, Err}
+use Rattle.std.specs.Prelude.{◌≡◌, ◌⊎◌, ℕ, suc, ◌<◌, ◌≤◌, List, [], ◌∷◌, Option, Some, None, Result, Ok, Err}
 use Rattle.nf_core.specs.Trees.{Rule}
-use Rattle.nf_core.specs.Written.{plan_of, names_of, AreLevels}
+use Rattle.nf_core.specs.Plan.{Plan}
+use Rattle.nf_core.specs.Written.{Levels, plan_of, names_of, AreLevels}
 use Rattle.nf_core.specs.declared.trees.Module.{Module}
 use Rattle.nf_modules.specs.Selection.{Selects}
 use Rattle.nf_modules.specs.declared.fault.ModuleFault.{ModuleFault}
 use Rattle.nf_modules.specs.declared.fault.ModuleFault.TheVariants as selection
-use Rattle.nf_order.specs.Dependence.{IsFirstCycle}
+use Rattle.nf_order.specs.Dependence.{IsFirstCycle, leveled_names}
 use Rattle.nf_order.specs.declared.fault.OrderFault.{OrderFault}
 use Rattle.nf_order.specs.declared.fault.OrderFault.TheVariants as order
 use Rattle.nf_parse.specs.declared.fault.ParseFault.{ParseFault}
@@ -50,26 +51,48 @@ kind_fault_from number (rule ∷ rules) = kind_fault_at number (fault_of rule) (
 abbrev pub kind_fault : List Rule → Option (ℕ × KindFault)
 kind_fault rules = kind_fault_from 1 rules
 
--- what selected rules are compiled to: the rules themselves, the levels of their names in the order in which the names first appear, and the plan of both
+-- the rules of the plan: the selected ones
+abbrev pub rules_of_plan : List Rule → List Rule
+rules_of_plan selected = selected
+
+-- the levels of the names that rules mention, in the order in which the names first appear
+pub record AreLevelsInOrder (rules : List Rule) (levels : Levels) : Type 0 where
+  pub each_level : AreLevels rules levels
+  pub named : leveled_names levels ≡ names_of rules
+
+-- the plan of rules, by the levels of their names
+pub record IsPlanOf (rules : List Rule) (plan : Plan) : Type 0 where
+  pub levels : Levels
+  pub leveled : AreLevelsInOrder rules levels
+  pub is : plan ≡ plan_of rules levels
+
+-- what selected rules are compiled to: the rules themselves, the levels of their names, and the plan of the rules of the plan
 pub record IsCompiled (rules : List Rule) (compiled : Compiled) : Type 0 where
   pub rules_are : compiled.rules ≡ rules
-  pub each_level : AreLevels rules compiled.levels
-  pub named : map (λ (level : List ℕ × ℕ). level.0) compiled.levels ≡ names_of rules
-  pub planned : compiled.plan ≡ plan_of rules compiled.levels
+  pub leveled : AreLevelsInOrder rules compiled.levels
+  pub planned : IsPlanOf (rules_of_plan rules) compiled.plan
+
+-- the answer to a specification: what it is compiled to, or why it is refused
+abbrev pub Answer : Type 0
+Answer = Result Compiled SpecFault
 
 -- what selected rules define: the first rule whose kinds aren't right is refused; then the first head that depends on itself; and else the rules are compiled
-pub data Ordered (rules : List Rule) : Result Compiled SpecFault → Type 0 where
+pub data Ordered (rules : List Rule) : Answer → Type 0 where
   kinds : {number : ℕ} {why : KindFault} → kind_fault rules ≡ Some (number, why) → Ordered rules (Err (fault.Kinds number why))
   cycle : {head : List ℕ} → kind_fault rules ≡ None → IsFirstCycle rules head → Ordered rules (Err (fault.Cycle head))
   compiled : {made : Compiled} → kind_fault rules ≡ None → IsCompiled rules made → Ordered rules (Ok made)
 
 -- what modules define, under a root or without one: the selection is refused, or what the selected rules define
-pub data SpecifiesFrom (modules : List Module) (root : Option (List ℕ)) : Result Compiled SpecFault → Type 0 where
+pub data SpecifiesFrom (modules : List Module) (root : Option (List ℕ)) : Answer → Type 0 where
   unselectable : {why : ModuleFault} → Selects modules root (Err why) → SpecifiesFrom modules root (Err (unselected why))
-  selected : {rules : List Rule} {answer : Result Compiled SpecFault} → Selects modules root (Ok rules) → Ordered rules answer → SpecifiesFrom modules root answer
+  selected : {rules : List Rule} {answer : Answer} → Selects modules root (Ok rules) → Ordered rules answer → SpecifiesFrom modules root answer
 
 -- what sources define: all of them together are too long; or else the first source that is refused; or else what their modules define
-pub data Specifies (sources : List (List ℕ)) (root : Option (List ℕ)) : Result Compiled SpecFault → Type 0 where
+pub data Specifies (sources : List (List ℕ)) (root : Option (List ℕ)) : Answer → Type 0 where
   too_long : specification_limit < total sources → Specifies sources root (Err fault.TooLong)
   refused : {place : ℕ} {why : ParseFault} → total sources ≤ specification_limit → AreParsed sources (Err (place, why)) → Specifies sources root (Err (refused_at place why))
-  parsed : {modules : List Module} {answer : Result Compiled SpecFault} → total sources ≤ specification_limit → AreParsed sources (Ok modules) → SpecifiesFrom modules root answer → Specifies sources root answer
+  parsed : {modules : List Module} {answer : Answer} → total sources ≤ specification_limit → AreParsed sources (Ok modules) → SpecifiesFrom modules root answer → Specifies sources root answer
+
+-- what a call answers: want of memory, or an answer that a definition has
+abbrev pub OrNoMemory : (Answer → Type 0) → Answer → Type 0
+OrNoMemory Defines answer = (answer ≡ Err fault.NoMemory) ⊎ Defines answer

@@ -1,12 +1,11 @@
 //! What a specification is compiled to.
 
-ghost use Rattle.std.specs.Prelude.{◌≡◌, ◌⊎◌, ◌<◌, ◌≤◌, ◌^◌, All, Err, IfOk, length};
+ghost use Rattle.std.specs.Prelude.{◌<◌, ◌≤◌, ◌^◌, All, IfOk, length};
 ghost use Rattle.std.specs.Option.{option_copied};
 ghost use Rattle.nf_core.specs.Trees.{IsWritten};
 ghost use Rattle.nf_parse.specs.Answers.{rules_in, size_of};
 ghost use Rattle.nf_spec.specs.Sources.{specification_limit};
-ghost use Rattle.nf_spec.specs.Specification.{Specifies, SpecifiesFrom};
-ghost use Rattle.nf_spec.specs.declared.fault.SpecFault.TheVariants as fault;
+ghost use Rattle.nf_spec.specs.Specification.{OrNoMemory, Specifies, SpecifiesFrom};
 
 use crate::fault::SpecFault;
 use crate::parsing::parse_sources;
@@ -16,8 +15,8 @@ use nf_core::{Levels, ModuleList, Plan, RuleList, trees_are_expressions};
 use nf_order::levels;
 use std::alloc::Global;
 
-/// What a specification is compiled to: the selected rules in order, the levels of their names, and
-/// their plan.
+/// What a specification is compiled to (`IsCompiled` of specs/Specification.antt): the selected rules in
+/// order, the levels of their names, and the plan of the rules of the plan, which are the selected ones.
 #[derive(Drop)]
 pub struct Compiled {
     pub plan: Plan,
@@ -35,10 +34,10 @@ pub struct Compiled {
 /// from 1, whose kinds aren't right; Cycle at the first head that depends on itself. Which line a
 /// refusal as Grammar or TooDeep has, and which of the two it is where both apply, isn't promised. NoMemory
 /// may come from any call. Every rule that is answered can be written, so that it can be printed.
-#[tactic(auto, using(crate::proofs::Specified::past_limit, crate::proofs::Specified::no_modules, crate::proofs::Specified::from_modules))]
+#[tactic(auto, using(crate::proofs::SpecifiedLemmas::past_limit, crate::proofs::SpecifiedLemmas::no_modules, crate::proofs::SpecifiedLemmas::from_modules))]
 pub fn compile(alloc: Global, files: &SourceList, root: Option<&str>) -> Result<Compiled, SpecFault>
     requires { length files.now < 2 ^ 32 }
-    ensures specifies { (result ≡ Err fault.NoMemory) ⊎ Specifies files.now (option_copied root.entry) result }
+    ensures specifies { OrNoMemory (Specifies files.now (option_copied root.entry)) result }
     ensures written { IfOk result (λ compiled. All IsWritten compiled.rules) }
 {
     if files.are_too_long() {
@@ -49,7 +48,7 @@ pub fn compile(alloc: Global, files: &SourceList, root: Option<&str>) -> Result<
 }
 
 /// What modules are compiled to that have at most 1,048,576 rules and entries of maps together.
-#[tactic(auto, using(crate::proofs::Planned::can_be_planned, crate::proofs::Specified::no_selection, crate::proofs::Specified::wrong_kinds, crate::proofs::Specified::no_levels, crate::proofs::Specified::all_compiled))]
+#[tactic(auto, using(crate::proofs::PlannedRuleLemmas::can_be_planned, crate::proofs::SpecifiedLemmas::no_selection, crate::proofs::SpecifiedLemmas::wrong_kinds, crate::proofs::SpecifiedLemmas::no_levels, crate::proofs::SpecifiedLemmas::all_compiled))]
 fn compile_modules(
     alloc: Global,
     modules: &ModuleList,
@@ -57,7 +56,7 @@ fn compile_modules(
 ) -> Result<Compiled, SpecFault>
     requires few { size_of modules.now ≤ specification_limit }
     requires written { All IsWritten (rules_in modules.now) }
-    ensures specifies { (result ≡ Err fault.NoMemory) ⊎ SpecifiesFrom modules.now (option_copied root.entry) result }
+    ensures specifies { OrNoMemory (SpecifiesFrom modules.now (option_copied root.entry)) result }
     ensures written { IfOk result (λ compiled. All IsWritten compiled.rules) }
 {
     trees_are_expressions();

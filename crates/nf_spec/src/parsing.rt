@@ -5,7 +5,7 @@ ghost use Rattle.nf_core.specs.Trees.{IsWritten};
 ghost use Rattle.nf_parse.specs.Answers.{rules_in, size_of};
 ghost use Rattle.nf_spec.specs.Sources.{AreParsed, total};
 ghost use Rattle.nf_spec.specs.Specification.{refused_at};
-ghost use Rattle.nf_spec.specs.Parsing.{AreParsedTo, IsRefusal};
+ghost use Rattle.nf_spec.specs.inner.Parsing.{AreParsedTo, IsRefusal};
 
 use crate::fault::SpecFault;
 use nf_core::{Lines, Module, ModuleList};

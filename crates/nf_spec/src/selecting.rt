@@ -1,16 +1,14 @@
 //! The rules that are selected, and their kinds.
 
-ghost use Rattle.std.specs.Prelude.{◌≡◌, ◌⊎◌, ◌+◌, ◌≤◌, ℕ, Ok, Err, None, Some, All, IfOk, IfErr, OnOk, length};
+ghost use Rattle.std.specs.Prelude.{◌≡◌, ◌≤◌, Ok, None, All, IfOk, IfErr, OnOk, length};
 ghost use Rattle.std.specs.Option.{option_copied};
 ghost use Rattle.nf_core.specs.Kinds.{AreKindsRight};
 ghost use Rattle.nf_core.specs.Trees.{IsRule, IsWritten};
 ghost use Rattle.nf_modules.specs.Selection.{Selects};
-ghost use Rattle.nf_modules.specs.declared.fault.ModuleFault.{ModuleFault as ModuleFaultOf};
-ghost use Rattle.nf_parse.specs.Answers.{rules_in, entries_in, size_of};
+ghost use Rattle.nf_parse.specs.Answers.{rules_in, size_of};
 ghost use Rattle.nf_spec.specs.Sources.{specification_limit};
-ghost use Rattle.nf_spec.specs.Specification.{kind_fault, unselected};
-ghost use Rattle.nf_spec.specs.declared.fault.SpecFault.TheVariants as fault;
-ghost use Rattle.nf_typing.specs.declared.fault.KindFault.{KindFault as KindFaultOf};
+ghost use Rattle.nf_spec.specs.Specification.{kind_fault};
+ghost use Rattle.nf_spec.specs.inner.Selecting.{size_of_rules, IsUnselected, IsWrongKind};
 
 use crate::fault::SpecFault;
 use nf_core::{ModuleList, RuleList};
@@ -20,7 +18,7 @@ use std::alloc::Global;
 
 /// The rules that are selected from modules which have at most 1,048,576 rules and entries of maps
 /// together, or the fault of the selection.
-#[tactic(auto, using(crate::proofs::Selected::selected_here, crate::proofs::Selected::selected_few, crate::proofs::Selected::selected_all, crate::proofs::Selected::unselected_here))]
+#[tactic(auto, using(crate::proofs::SelectedRuleLemmas::selected_here, crate::proofs::SelectedRuleLemmas::selected_few, crate::proofs::SelectedRuleLemmas::selected_all, crate::proofs::SelectedRuleLemmas::unselected_here))]
 pub(crate) fn select_rules(
     alloc: Global,
     modules: &ModuleList,
@@ -28,10 +26,10 @@ pub(crate) fn select_rules(
 ) -> Result<RuleList, SpecFault>
     requires few { size_of modules.now ≤ specification_limit }
     requires written { All IsWritten (rules_in modules.now) }
-    ensures selects { IfOk result (λ rules. Selects modules.now (option_copied root.entry) (Ok rules)) }
-    ensures few { IfOk result (λ rules. length rules + length (entries_in rules) ≤ specification_limit) }
+    ensures selects { IfOk result (λ rs. Selects modules.now (option_copied root.entry) (Ok rs)) }
+    ensures few { IfOk result (λ rules. size_of_rules rules ≤ specification_limit) }
     ensures written { IfOk result (All IsWritten) }
-    ensures err { IfErr result (λ f. (f ≡ fault.NoMemory) ⊎ ((why : ModuleFaultOf) × Selects modules.now (option_copied root.entry) (Err why) × (f ≡ unselected why))) }
+    ensures err { IfErr result (IsUnselected modules.now (option_copied root.entry)) }
 {
     Ok(select(alloc, modules, root)?)
 }
@@ -43,7 +41,7 @@ pub(crate) fn check_kinds(rules: &RuleList) -> Result<(), SpecFault>
     ensures ok { OnOk result (kind_fault rules.now ≡ None) }
     ensures right { OnOk result (All AreKindsRight rules.now) }
     ensures limits { OnOk result (All IsRule rules.now) }
-    ensures err { IfErr result (λ f. (number : ℕ) × (why : KindFaultOf) × (kind_fault rules.now ≡ Some (number, why)) × (f ≡ fault.Kinds number why)) }
+    ensures err { IfErr result (IsWrongKind rules.now) }
 {
     'rules: for (place, rule) in rules.as_slice().iter().enumerate() {
         // A rule's limits are known where one of its fields is read.

@@ -3,12 +3,10 @@
 ghost use Rattle.std.specs.Prelude.{◌≡◌, ◌<◌, ◌++◌, ◌∷◌, [], ◌↔◌, IsTrue, OnOk, OnErr, length};
 ghost use Rattle.nf_spec.specs.Sources.{specification_limit, total};
 
+use crate::limits::SPECIFICATION_LIMIT;
 use nf_core::{Lines, ListOf, NoMemory};
 use std::alloc::Global;
 use std::marker::Model;
-
-/// The most bytes of all sources of a specification together.
-const SPECIFICATION_LIMIT: usize = 1_048_576;
 
 /// The sources of a specification, in order. Contracts see the list of their bytes.
 #[derive(Debug, Drop)]
@@ -79,7 +77,7 @@ impl SourceList {
 }
 
 /// Whether some sources have more than 1,048,576 bytes together.
-#[tactic(auto, using(crate::proofs::Totals::next_room, crate::proofs::Totals::no_room, crate::proofs::Totals::all_room))]
+#[tactic(auto, using(crate::proofs::RoomLemmas::next_room, crate::proofs::RoomLemmas::no_room, crate::proofs::RoomLemmas::all_room))]
 fn are_too_long(sources: &[Lines]) -> bool
     ensures { IsTrue result ↔ (specification_limit < total sources.now) }
 {

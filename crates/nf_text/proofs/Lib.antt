@@ -1,4 +1,4 @@
-pub mod Cutting
-pub mod Numerals
-pub mod Spellings
-pub mod Plain
+pub mod FieldLemmas
+pub mod NumeralLemmas
+pub mod SpellingLemmas
+pub mod PlainTextLemmas

@@ -2,3 +2,4 @@ pub mod Fields
 pub mod Place
 pub mod Time
 pub mod Value
+pub mod inner

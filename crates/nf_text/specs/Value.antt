@@ -1,9 +1,10 @@
 -- The values of traces and specifications: what a text spells.
-use Rattle.std.specs.Prelude.{ℕ, ◌-◌, ◌^◌, Bool, true, false, not, ◌&&◌, ◌||◌, List, drop, ◌==◌, nat_lt, if◌then◌else◌, Option, Some, None, ℤ, pos, negsuc, int_le, bytes_eq, codes, slice_index}
+use Rattle.std.specs.Prelude.{ℕ, Bool, true, false, not, ◌&&◌, ◌||◌, List, drop, ◌==◌, nat_lt, if◌then◌else◌, Option, Some, None, ℤ, bytes_eq, codes, slice_index}
 use Rattle.std.specs.Option.{option_map_or}
 use Rattle.std.specs.List.{list_all, list_any}
 use Rattle.std.specs.Char.{is_ascii_digit}
 use Rattle.std.specs.Str.Parse.{signed_digits_value}
+use Rattle.nf_core.specs.Texts.{is_i64}
 use Rattle.nf_text.specs.declared.value.Read.{Read}
 use Rattle.nf_text.specs.declared.value.Read.TheVariants as read
 
@@ -25,13 +26,9 @@ is_positive digits = list_all is_ascii_digit digits && nat_lt 48 (slice_index di
 abbrev pub is_numeral : List ℕ → Bool
 is_numeral text = bytes_eq text (codes "0") || is_positive text || (slice_index text 0 == 45 && is_positive (drop 1 text))
 
--- a number is within i64: from -2^63 to 2^63 - 1
-abbrev pub is_within_i64 : ℤ → Bool
-is_within_i64 n = int_le (negsuc (2 ^ 63 - 1)) n && int_le n (pos (2 ^ 63 - 1))
-
 -- a text is a whole number where it is a numeral of a value within i64; its value is that of its sign and digits
 unfoldable pub whole_of : List ℕ → Option ℤ
-whole_of text = if is_numeral text && is_within_i64 (signed_digits_value 10 text) then Some (signed_digits_value 10 text) else None
+whole_of text = if is_numeral text && is_i64 (signed_digits_value 10 text) then Some (signed_digits_value 10 text) else None
 
 -- a text spells a truth value or a whole number where it is one, else just its bytes
 unfoldable pub spelling_of : List ℕ → Spelling

@@ -2,7 +2,8 @@
 
 ghost use Rattle.std.specs.Prelude.{◌≡◌, ◌<◌, ◌∷◌};
 ghost use Rattle.std.specs.Iterator.{YieldsFirstRef, item_count};
-ghost use Rattle.nf_text.specs.Fields.{fields_of, fields_left};
+ghost use Rattle.nf_text.specs.Fields.{fields_of};
+ghost use Rattle.nf_text.specs.inner.Splitting.{fields_left};
 
 use std::marker::Model;
 
@@ -16,7 +17,7 @@ pub struct Split<'a> {
 
 impl<'a> Model for Split<'a> {
     ghost use Rattle.std.specs.Prelude.{List, ℕ, ◌<◌};
-    ghost use Rattle.nf_text.specs.Fields.{fields_left};
+    ghost use Rattle.nf_text.specs.inner.Splitting.{fields_left};
 
     ghost Value = { List (List ℕ) };
 

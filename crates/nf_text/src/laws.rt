@@ -13,7 +13,8 @@ ghost use Rattle.nf_core.specs.Texts.{IsPlainByte, IsPlain};
 /// is its canonical decimal.
 pub fn printed_numbers_are_read()
     ensures read { (n : ℤ) → FitsSigned w64 n → spelling_of (signed_decimal n) ≡ Whole n }
-    ensures canonical { (text : List ℕ) (n : ℤ) → spelling_of text ≡ Whole n → text ≡ signed_decimal n }
+    ensures canonical { (text : List ℕ) (n : ℤ) → spelling_of text ≡ Whole n
+        → text ≡ signed_decimal n }
     ensures within { (text : List ℕ) (n : ℤ) → spelling_of text ≡ Whole n → FitsSigned w64 n }
 {}
 
@@ -32,11 +33,12 @@ pub fn spellings_are_apart()
     ensures words { (text given : List ℕ) → spelling_of text ≡ Words given → given ≡ text }
 {}
 
-/// The tests of plain texts are right: a byte is plain exactly where it is none of `|`, `;`, CR and LF, a
-/// text passes `is_plain` exactly where it is plain, and one with plain bytes that spells just its
+/// The tests of plain texts are right: a byte is plain exactly where it is none of `|`, `;`, CR and LF,
+/// a text passes `is_plain` exactly where it is plain, and one with plain bytes that spells just its
 /// bytes is plain.
 pub fn plain_texts()
     ensures bytes { (text : List ℕ) → (list_any is_separator text ≡ false) ↔ All IsPlainByte text }
     ensures plain { (text : List ℕ) → (is_plain text ≡ true) ↔ IsPlain text }
-    ensures words { (text : List ℕ) → All IsPlainByte text → is_words (spelling_of text) ≡ true → IsPlain text }
+    ensures words { (text : List ℕ) → All IsPlainByte text → is_words (spelling_of text) ≡ true
+        → IsPlain text }
 {}

@@ -26,6 +26,3 @@ pub use span::{Span, slice};
 pub use splitting::split;
 pub use time::read_time;
 pub use value::Read;
-
-#[cfg(test)]
-mod tests;

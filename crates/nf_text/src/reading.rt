@@ -1,4 +1,4 @@
-//! Reading a value.
+//! The readers of values: what a text spells, and whether it is plain.
 
 ghost use Rattle.std.specs.Prelude.{◌≡◌, ◌↔◌, IsTrue, true, All};
 ghost use Rattle.std.specs.List.{list_any};
@@ -15,7 +15,8 @@ use crate::value::Read;
 #[tactic(auto, unfolding(crate::specs::Value::spelling_of))]
 pub fn read_value<'a>(text: &'a str) -> Read<'a>
     ensures spelling { spelling result ≡ spelling_of text.now }
-    ensures plain { All IsPlainByte text.now → is_words (spelling result) ≡ true → IsPlain text.now }
+    ensures plain { All IsPlainByte text.now → is_words (spelling result) ≡ true
+        → IsPlain text.now }
 {
     match text {
         "true" => Read::Bool(true),
@@ -48,7 +49,7 @@ fn has_separator(bytes: &[u8]) -> bool
 }
 
 /// The whole number that `text` spells, if it does.
-#[tactic(auto, using(crate::proofs::Numerals::whole_read), unfolding(crate::specs::Value::whole_of))]
+#[tactic(auto, using(crate::proofs::NumeralLemmas::whole_read), unfolding(crate::specs::Value::whole_of))]
 fn read_whole(text: &str) -> Option<i64>
     ensures { result ≡ whole_of text.now }
 {

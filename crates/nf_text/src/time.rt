@@ -10,7 +10,7 @@ const LONGEST: usize = 19;
 
 /// The time that `text` spells, or None exactly where it isn't 1 to 19 digits with a value of at most
 /// 2^63 - 1. Leading zeros are allowed. The rule is `time_of` in specs/Time.antt.
-#[tactic(auto, using(crate::proofs::Numerals::time_read), unfolding(crate::specs::Time::time_of))]
+#[tactic(auto, using(crate::proofs::NumeralLemmas::time_read), unfolding(crate::specs::Time::time_of))]
 pub fn read_time(text: &str) -> Option<i64>
     ensures { result ≡ time_of text.now }
 {

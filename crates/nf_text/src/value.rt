@@ -1,6 +1,7 @@
-//! Reading a value.
+//! The values that texts spell.
 
-/// What a text spells: a truth value, a whole number, or itself.
+/// What a text spells: a truth value, a whole number, or itself, as lent. Contracts see it by `spelling`
+/// of specs/Value.antt.
 #[derive(Debug, Clone, Copy, PartialEq, Eq)]
 pub enum Read<'a> {
     Bool(bool),

@@ -1,4 +1,4 @@
-pub mod Agree
-pub mod Right
-pub mod Steps
-pub mod Bodies
+pub mod KindAgreementLemmas
+pub mod RightKindLemmas
+pub mod RulePartLemmas
+pub mod BodyLemmas

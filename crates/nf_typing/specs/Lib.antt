@@ -1,2 +1,2 @@
-pub mod Meant
 pub mod Faults
+pub mod inner

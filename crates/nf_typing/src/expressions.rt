@@ -1,11 +1,10 @@
 //! The kinds of expressions, or their first faults.
 
-ghost use Rattle.std.specs.Prelude.{◌≡◌};
-ghost use Rattle.std.specs.Result.{result_err, result_map_both};
-ghost use Rattle.nf_core.specs.Kinds.{labels_of};
-ghost use Rattle.nf_core.specs.Trees.{tree};
-ghost use Rattle.nf_typing.specs.Meant.{kind_meant};
-ghost use Rattle.nf_typing.specs.Faults as spec;
+ghost use Rattle.std.specs.Prelude.{◌≡◌, Some};
+ghost use Rattle.std.specs.Result.{result_err};
+ghost use Rattle.nf_core.specs.Kinds.{kind_of_negated, kind_of_inverted, kind_of_binary};
+ghost use Rattle.nf_typing.specs.Faults.{clause_fault};
+ghost use Rattle.nf_typing.specs.inner.Meant.{kind_meant, Finds, FindsOperator};
 
 use crate::clause::Clause;
 use crate::fault::KindFault;
@@ -14,9 +13,9 @@ use crate::labels::check_read;
 use nf_core::{BinOp, Expr, Rule};
 
 /// The first fault of a clause of a rule (`clause_fault` of specs/Faults).
-#[tactic(auto, unfolding(crate::specs::Faults::clause_fault, crate::specs::Faults::kind_fault))]
+#[tactic(auto, unfolding(crate::specs::Faults::clause_fault))]
 pub(crate) fn check_clause(rule: &Rule, clause: Clause, expr: &Expr) -> Result<(), KindFault>
-    ensures { result_err result ≡ spec.clause_fault rule.now.body clause expr.now }
+    ensures { result_err result ≡ clause_fault rule.now.body clause expr.now }
 {
     let kind = checked(rule, clause, expr)?;
     if !fits(clause, kind) {
@@ -28,9 +27,9 @@ pub(crate) fn check_clause(rule: &Rule, clause: Clause, expr: &Expr) -> Result<(
 // The kind of an expression of a clause, or its first fault: operands before their operator, and left
 // before right. It calls itself for each operand, so it stands as many calls deep as the expression has
 // nodes on a way down, which is at most one more than it has operators: at most 257 calls in a rule.
-#[tactic(auto, unfolding(crate::specs::Faults::checked, crate::specs::Faults::checked_read, crate::specs::Faults::checked_negated, crate::specs::Faults::checked_inverted, crate::specs::Faults::checked_binary))]
+#[tactic(auto, unfolding(crate::specs::Faults::expression_fault, crate::specs::Faults::read_fault, nf_core::specs::Kinds::kind_of_tree, nf_core::specs::Kinds::kind_of_negated, nf_core::specs::Kinds::kind_of_inverted, nf_core::specs::Kinds::kind_of_binary))]
 fn checked(rule: &Rule, clause: Clause, expr: &Expr) -> Result<Kind, KindFault>
-    ensures { result_map_both kind_meant (λ fault. fault) result ≡ spec.checked (spec.readable_in clause rule.now.body) (labels_of rule.now.body) (tree expr.now) }
+    ensures { Finds rule.now.body clause expr.now result }
 {
     match expr {
         Expr::Bool(_) => Ok(Kind::Truth),
@@ -55,9 +54,9 @@ fn checked(rule: &Rule, clause: Clause, expr: &Expr) -> Result<Kind, KindFault>
 }
 
 // Unary `-` over an operand of this kind.
-#[tactic(auto, unfolding(crate::specs::Faults::checked_negated))]
+#[tactic(auto, unfolding(nf_core::specs::Kinds::kind_of_negated))]
 fn negated(operand: Kind) -> Result<Kind, KindFault>
-    ensures { result_map_both kind_meant (λ fault. fault) result ≡ spec.checked_negated (Ok (kind_meant operand)) }
+    ensures { FindsOperator (kind_of_negated (Some (kind_meant operand))) result }
 {
     if operand.may_be_number() {
         Ok(Kind::Number)
@@ -67,9 +66,9 @@ fn negated(operand: Kind) -> Result<Kind, KindFault>
 }
 
 // `!` over an operand of this kind.
-#[tactic(auto, unfolding(crate::specs::Faults::checked_inverted))]
+#[tactic(auto, unfolding(nf_core::specs::Kinds::kind_of_inverted))]
 fn inverted(operand: Kind) -> Result<Kind, KindFault>
-    ensures { result_map_both kind_meant (λ fault. fault) result ≡ spec.checked_inverted (Ok (kind_meant operand)) }
+    ensures { FindsOperator (kind_of_inverted (Some (kind_meant operand))) result }
 {
     if operand.may_be_truth() {
         Ok(Kind::Truth)
@@ -79,9 +78,10 @@ fn inverted(operand: Kind) -> Result<Kind, KindFault>
 }
 
 // An operator over two operands of these kinds.
-#[tactic(auto, unfolding(crate::specs::Faults::checked_binary))]
+#[tactic(auto, unfolding(nf_core::specs::Kinds::kind_of_binary))]
 fn binary(op: BinOp, left: Kind, right: Kind) -> Result<Kind, KindFault>
-    ensures { result_map_both kind_meant (λ fault. fault) result ≡ spec.checked_binary op (Ok (kind_meant left)) (Ok (kind_meant right)) }
+    ensures { FindsOperator
+        (kind_of_binary op (Some (kind_meant left)) (Some (kind_meant right))) result }
 {
     if takes(op, left) && takes(op, right) {
         Ok(gives(op))

@@ -8,7 +8,7 @@ pub enum KindFault {
     /// An expression reads under a label that no atom has.
     #[error("unknown label")]
     UnknownLabel,
-    /// Both atoms have the same label.
+    /// An atom has the label of an earlier one.
     #[error("same label")]
     SameLabel,
     /// An operator has an operand of a kind that it doesn't take, or the expression of a clause is of

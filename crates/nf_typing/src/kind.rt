@@ -2,7 +2,7 @@
 
 ghost use Rattle.std.specs.Prelude.{◌≡◌, Some};
 ghost use Rattle.nf_core.specs.Kinds.{may_be_number, may_be_truth, takes, gives};
-ghost use Rattle.nf_typing.specs.Meant.{kind_meant};
+ghost use Rattle.nf_typing.specs.inner.Meant.{kind_meant};
 ghost use Rattle.nf_typing.specs.Faults.{fits};
 
 use crate::clause::Clause;

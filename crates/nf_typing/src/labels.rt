@@ -4,40 +4,42 @@ ghost use Rattle.std.specs.Prelude.{◌≡◌, bytes_eq, take};
 ghost use Rattle.std.specs.List.{list_any};
 ghost use Rattle.std.specs.Result.{result_err};
 ghost use Rattle.nf_core.specs.Kinds.{labels_of, result_labels};
-ghost use Rattle.nf_typing.specs.Faults.{label_fault, two_fault, read_fault, readable_in};
+ghost use Rattle.nf_core.specs.Trees.{atoms_of};
+ghost use Rattle.nf_typing.specs.Faults.{label_fault, has_same_label, read_fault, readable_in};
 
 use crate::clause::Clause;
 use crate::fault::KindFault;
-use nf_core::{Atom, Body, Rule, Text};
+use nf_core::{Body, Rule, Text};
 
-/// SameLabel where both atoms of a body have the same label.
-#[tactic(auto, using(crate::proofs::Bodies::two_labels, crate::proofs::Bodies::one_label, crate::proofs::Bodies::empty_label))]
+/// SameLabel where an atom of a body has the label of an earlier one.
 pub(crate) fn check_labels(rule: &Rule) -> Result<(), KindFault>
     ensures { result_err result ≡ label_fault rule.now.body }
 {
-    let Some(first) = rule.reads(0) else {
-        return Ok(());
-    };
-    let Some(second) = rule.reads(1) else {
-        return Ok(());
-    };
-    check_two(first, second)
-}
-
-fn check_two(first: &Atom, second: &Atom) -> Result<(), KindFault>
-    ensures { result_err result ≡ two_fault first.now second.now }
-{
-    if first.label == second.label {
+    if has_same_label(rule) {
         return Err(KindFault::SameLabel);
     }
     Ok(())
+}
+
+// Whether an atom has the label of an earlier one. A body has at most two atoms.
+#[tactic(auto, using(crate::proofs::BodyLemmas::two_labels, crate::proofs::BodyLemmas::one_label))]
+fn has_same_label(rule: &Rule) -> bool
+    ensures { result ≡ has_same_label (atoms_of rule.now.body) }
+{
+    match &rule.body {
+        Body::One(_) => false,
+        Body::Pair(first, _, second) | Body::Unless(first, _, second) => {
+            first.label == second.label
+        }
+    }
 }
 
 /// The fault of a read under a label, in a clause of a rule: SecondLabel where it is the label of an atom
 /// that the clause may not read, UnknownLabel where no atom has it.
 #[tactic(auto, unfolding(crate::specs::Faults::read_fault))]
 pub(crate) fn check_read(rule: &Rule, clause: Clause, label: &Text) -> Result<(), KindFault>
-    ensures { result_err result ≡ read_fault (readable_in clause rule.now.body) (labels_of rule.now.body) label.now }
+    ensures { result_err result
+        ≡ read_fault (readable_in clause rule.now.body) (labels_of rule.now.body) label.now }
 {
     if is_readable(rule, clause, label) {
         return Ok(());
@@ -69,7 +71,7 @@ fn is_result_label(rule: &Rule, label: &Text) -> bool
 }
 
 // Whether the first atom has this label.
-#[tactic(auto, using(crate::proofs::Bodies::first_label))]
+#[tactic(auto, using(crate::proofs::BodyLemmas::first_label))]
 fn is_first_label(rule: &Rule, label: &Text) -> bool
     ensures { result ≡ list_any (bytes_eq label.now) (take 1 (labels_of rule.now.body)) }
 {

@@ -2,9 +2,10 @@
 //!
 //! `check_rule` answers the first fault of a rule, and none exactly where its kinds are right, which is
 //! what a plan requires. `rules` goes through the clauses in order, `expressions` down an expression,
-//! `labels` says what a clause may read, and `kind` what operators and clauses take. `laws` ties the
-//! kinds found here to those of nf_core's specs/Kinds. Below stands nf_core with its trees and its tables
-//! of kinds; above stands what compiles specifications. No call takes memory.
+//! `labels` says what a clause may read, and `kind` what operators and clauses take. `laws` says that an
+//! expression has a fault exactly where it has no kind (`kind_of_tree` of nf_core's specs/Kinds). Below
+//! stands nf_core with its trees and its tables of kinds; above stands what compiles specifications. No
+//! call takes memory.
 #![tactic(auto)]
 
 mod clause;
@@ -14,8 +15,6 @@ mod kind;
 mod labels;
 mod laws;
 mod rules;
-#[cfg(test)]
-mod tests;
 
 pub use fault::KindFault;
 pub use laws::kinds_are_those_of_trees;

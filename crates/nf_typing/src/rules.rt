@@ -1,13 +1,12 @@
 //! The first fault of a rule.
 
-ghost use Rattle.std.specs.Prelude.{◌≡◌, ◌↔◌, [], ◌∷◌, IsOk};
+ghost use Rattle.std.specs.Prelude.{◌≡◌, ◌↔◌, [], IsOk};
 ghost use Rattle.std.specs.Result.{result_err};
 ghost use Rattle.std.specs.List.{list_any};
 ghost use Rattle.nf_core.specs.Kinds.{AreKindsRight};
 ghost use Rattle.nf_core.specs.Texts.{text_eq};
 ghost use Rattle.nf_core.specs.declared.trees.Entry.{Entry as EntryOf};
-ghost use Rattle.nf_typing.specs.Faults as spec;
-ghost use Rattle.nf_typing.specs.declared.clause.Clause.TheVariants as clause;
+ghost use Rattle.nf_typing.specs.Faults.{fault_of, optional_fault, entry_fault, entries_fault};
 
 use crate::clause::Clause;
 use crate::expressions::check_clause;
@@ -27,16 +26,16 @@ use nf_core::{Entry, Expr, Rule, Text};
 /// the square of its entries: a set of the keys would take memory. An expression is checked by calls for
 /// its operands, which stand at most 257 deep, since a rule has at most 256 operators in an expression.
 pub fn check_rule(rule: &Rule) -> Result<(), KindFault>
-    ensures fault { result_err result ≡ spec.fault_of rule.now }
+    ensures fault { result_err result ≡ fault_of rule.now }
     ensures right { IsOk result ↔ AreKindsRight rule.now }
 {
     check_parts(rule)
 }
 
 // The first fault of a rule, part by part.
-#[tactic(auto, using(crate::proofs::Steps::first_alone), unfolding(crate::specs::Faults::fault_of))]
+#[tactic(auto, using(crate::proofs::RulePartLemmas::first_alone), unfolding(crate::specs::Faults::fault_of))]
 fn check_parts(rule: &Rule) -> Result<(), KindFault>
-    ensures { result_err result ≡ spec.fault_of rule.now }
+    ensures { result_err result ≡ fault_of rule.now }
 {
     check_labels(rule)?;
     check_optional(rule, Clause::Filter, &rule.filter)?;
@@ -47,7 +46,7 @@ fn check_parts(rule: &Rule) -> Result<(), KindFault>
 
 // The first fault of a clause that need not stand.
 fn check_optional(rule: &Rule, clause: Clause, expr: &Option<Expr>) -> Result<(), KindFault>
-    ensures { result_err result ≡ spec.optional_fault rule.now.body clause expr.now }
+    ensures { result_err result ≡ optional_fault rule.now.body clause expr.now }
 {
     match expr {
         Some(expr) => check_clause(rule, clause, expr),
@@ -57,7 +56,7 @@ fn check_optional(rule: &Rule, clause: Clause, expr: &Option<Expr>) -> Result<()
 
 // The first fault of the entries of a map.
 fn check_entries(rule: &Rule, entries: &[Entry]) -> Result<(), KindFault>
-    ensures { result_err result ≡ spec.entries_fault rule.now.body [] entries.now }
+    ensures { result_err result ≡ entries_fault rule.now.body [] entries.now }
 {
     'entries: for (place, entry) in entries.iter().enumerate() {
         check_entry(rule, &entries[..place], entry)?;
@@ -66,9 +65,9 @@ fn check_entries(rule: &Rule, entries: &[Entry]) -> Result<(), KindFault>
 }
 
 // The first fault of an entry behind earlier ones.
-#[tactic(auto, using(crate::proofs::Steps::first_alone), unfolding(crate::specs::Faults::key_fault))]
+#[tactic(auto, using(crate::proofs::RulePartLemmas::first_alone), unfolding(crate::specs::Faults::key_fault))]
 fn check_entry(rule: &Rule, earlier: &[Entry], entry: &Entry) -> Result<(), KindFault>
-    ensures { result_err result ≡ spec.first (spec.key_fault earlier.now entry.now ∷ spec.clause_fault rule.now.body clause.Entry entry.now.value ∷ []) }
+    ensures { result_err result ≡ entry_fault rule.now.body earlier.now entry.now }
 {
     if has_key(earlier, &entry.key) {
         return Err(KindFault::SameKey);

@@ -1,22 +1,24 @@
 -- The defined answer to the words and the files, and how the end of a call stands to it.
-use Rattle.std.specs.Prelude.{◌≡◌, ◌⊎◌, ℕ, suc, ◌+◌, ◌-◌, ◌≤◌, ◌<◌, Bool, true, false, List, [], drop, take, map, sum, length, Ok, Err, Option, Some, None, IfSome, ⊤, slice_index_or}
+use Rattle.std.specs.Prelude.{unwrap_or, option_map, ◌≡◌, ◌⊎◌, ℕ, suc, ◌+◌, ◌-◌, ◌≤◌, ◌<◌, Bool, true, false, List, [], drop, take, length, Ok, Err, Option, Some, None, IfSome, ⊤, slice_index_or}
 use Rattle.nf_core.specs.Plan.{Plan}
 use Rattle.nf_io.specs.Files.{Files, bytes_of, asked_of}
 use Rattle.nf_io.specs.Causes.{Rose}
+use Rattle.nf_io.specs.Tells.{ShelfTells}
 use Rattle.nf_io.specs.Bytes.{Took, TookAtLeast, TookPart, TookPrefix}
-use Rattle.nf_line.specs.Line.{Long, NotText, Fields, Time, Key, Counts}
-use Rattle.nf_line.specs.Trace.{Ending, Done, Refused, TooLong, InNoForm, Falls, trace, trace_limit, trace_so_far}
-use Rattle.nf_line.specs.declared.faults.LineFault.TheVariants as line_fault
-use Rattle.nf_line.specs.declared.faults.TraceFault.TheVariants as trace_fault
-use Rattle.nf_spec.specs.Sources.{specification_limit}
+use Rattle.nf_line.specs.Readings.{trace_fault_of}
+use Rattle.nf_line.specs.Trace.{Ending, Done, trace, trace_limit, trace_so_far}
+use Rattle.nf_line.specs.declared.fault.TraceFault.{TraceFault}
+use Rattle.nf_line.specs.declared.fault.TraceFault.TheVariants as trace_fault
+use Rattle.nf_spec.specs.Sources.{IsPassedAt, specification_limit, total}
 use Rattle.nf_spec.specs.Specification.{Specifies}
 use Rattle.nf_spec.specs.declared.compiling.Compiled.{Compiled}
 use Rattle.nf_spec.specs.declared.fault.SpecFault.{SpecFault}
 use Rattle.nf_spec.specs.declared.fault.SpecFault.TheVariants as fault
-use Rattle.nfer_cli.specs.Words.{Asked, Check, Follow, trace_word}
-use Rattle.nfer_cli.specs.Sources.{sources_of, passing}
+use Rattle.nfer_cli.specs.Words.{Asked, Check, Follow, specification_words, trace_of}
+use Rattle.nfer_cli.specs.Sources.{sources_of}
 use Rattle.nfer_cli.specs.Listing.{listing}
 use Rattle.nfer_cli.specs.Follow.{follow_text, due}
+use Rattle.nfer_cli.specs.declared.reading.TheConstants.{PIECE_LIMIT}
 use Rattle.nfer_cli.specs.declared.status.Status.{Status}
 use Rattle.nfer_cli.specs.declared.status.Status.TheVariants as status
 
@@ -32,19 +34,16 @@ refusal status = record { text = []; due_at = λ read. []; status = status }
 
 -- the most bytes of one read
 abbrev pub piece_limit : ℕ
-piece_limit = 65536
+piece_limit = PIECE_LIMIT
+
+-- the status of a trace that ends with a fault, or without one
+abbrev pub status_by : Option TraceFault → Status
+status_by None = status.Done
+status_by (Some fault) = status.Trace fault
 
 -- the status of the end of a trace
 abbrev pub status_of : Ending → Status
-status_of Done = status.Done
-status_of (Refused number (InNoForm Long)) = status.Trace (trace_fault.Long number)
-status_of (Refused number (InNoForm NotText)) = status.Trace (trace_fault.Line number line_fault.NotText)
-status_of (Refused number (InNoForm Fields)) = status.Trace (trace_fault.Line number line_fault.Fields)
-status_of (Refused number (InNoForm Time)) = status.Trace (trace_fault.Line number line_fault.Time)
-status_of (Refused number (InNoForm Key)) = status.Trace (trace_fault.Line number line_fault.Key)
-status_of (Refused number (InNoForm Counts)) = status.Trace (trace_fault.Line number line_fault.Counts)
-status_of (Refused number (Falls kept found)) = status.Trace (trace_fault.Order number kept found)
-status_of TooLong = status.Trace trace_fault.TooLong
+status_of ending = status_by (trace_fault_of ending)
 
 -- `follow` over a plan and the bytes of a trace: the text of its accepted lines, and the status of its end
 abbrev pub followed : Plan → Bool → List ℕ → Answer
@@ -60,19 +59,23 @@ checked made = record { text = listing made.levels made.rules; due_at = λ read.
 
 -- sources under a root, or without one, are refused, and how many of them are read before it is known: all together are too long, which is known with the source that passes the limit; or, all of them being read, they define no plan
 pub data Refuses (sources : List (List ℕ)) (root : Option (List ℕ)) : ℕ → SpecFault → Type 0 where
-  too_long : {place : ℕ} → passing specification_limit sources ≡ Some place → Refuses sources root (suc place) fault.TooLong
-  defines_none : {why : SpecFault} → passing specification_limit sources ≡ None → Specifies sources root (Err why) → Refuses sources root (length sources) why
+  too_long : {place : ℕ} → IsPassedAt specification_limit sources place → Refuses sources root (suc place) fault.TooLong
+  defines_none : {why : SpecFault} → total sources ≤ specification_limit → Specifies sources root (Err why) → Refuses sources root (length sources) why
 
 -- the answer of a command over the sources of a specification, and how many files are read before it is known: the sources are refused; or, all of them and so many more files being read, it is what the command makes of what they are compiled to
 pub data Over (sources : List (List ℕ)) (root : Option (List ℕ)) (more : ℕ) (answer_of : Compiled → Answer) : ℕ → Answer → Type 0 where
   refused : {reads : ℕ} {why : SpecFault} → Refuses sources root reads why → Over sources root more answer_of reads (refusal (status.Specification why))
-  accepted : {made : Compiled} → passing specification_limit sources ≡ None → Specifies sources root (Ok made) → Over sources root more answer_of (more + length sources) (answer_of made)
+  accepted : {made : Compiled} → total sources ≤ specification_limit → Specifies sources root (Ok made) → Over sources root more answer_of (more + length sources) (answer_of made)
+
+-- the bytes of the trace of a command, and none where it reads no trace
+abbrev pub trace_bytes : Files → Asked → List ℕ
+trace_bytes files question = unwrap_or (option_map (bytes_of files) (trace_of question)) []
 
 -- the defined answer to what is asked, over the files, and how many of the command's files are read before it is known
 abbrev pub Defines : Option Asked → Files → ℕ → Answer → Type 0
 Defines None files reads answer = (reads ≡ 0) × (answer ≡ refusal status.Usage)
-Defines (Some (Check root names)) files reads answer = Over (sources_of files names) root 0 checked reads answer
-Defines (Some (Follow full root names)) files reads answer = Over (sources_of files names) root 1 (λ made. followed made.plan full (bytes_of files trace_word)) reads answer
+Defines (Some (Check options names)) files reads answer = Over (sources_of files names) options.root 0 checked reads answer
+Defines (Some (Follow options names)) files reads answer = Over (sources_of files names) options.root 1 (λ made. followed made.plan options.full (trace_bytes files (Follow options names))) reads answer
 
 -- a call ends with the defined status, or with a fault that comes before it, or with want of memory: a read fault comes only at a file that is read before the status is known
 abbrev pub EndsFor : ℕ → Status → Status → Type 0
@@ -116,13 +119,8 @@ WroteAtEnd result answer before now = Took before now answer.text
 -- what was taken of the defined text, by what is asked
 abbrev pub Wrote : Option Asked → Files → Status → Answer → (rest before now : Option (List ℕ)) → Type 0
 Wrote None files result answer rest before now = WroteAtEnd result answer before now
-Wrote (Some (Check root names)) files result answer rest before now = WroteAtEnd result answer before now
-Wrote (Some (Follow full root names)) files result answer rest before now = WroteFollowing result (length names) answer (bytes_of files trace_word) rest before now
-
--- a sink got a text: the whole of it unless the sink failed, and a prefix of it in any case
-pub record Reports (before now : Option (List ℕ)) (faults_before faults_now : ℕ) (text : List ℕ) : Type 0 where
-  pub whole : ¬ Rose faults_before faults_now → Took before now text
-  pub part : TookPrefix before now text
+Wrote (Some (Check options names)) files result answer rest before now = WroteAtEnd result answer before now
+Wrote (Some (Follow options names)) files result answer rest before now = WroteFollowing result (length names) answer (trace_bytes files (Follow options names)) rest before now
 
 -- a call answered what is asked for over the files: with a status for a defined answer, and with what was taken of its text
 pub record Answers (asked : Option Asked) (files : Files) (result : Status) (rest before now : Option (List ℕ)) : Type 0 where
@@ -132,12 +130,16 @@ pub record Answers (asked : Option Asked) (files : Files) (result : Status) (res
   pub ends : EndsFor reads result answer.status
   pub writes : Wrote asked files result answer rest before now
 
--- one of the files with these names couldn't be read: the shelf's faults rose, its last call failed, and it was asked for that file
-pub record CannotRead (names : List (List ℕ)) (place : ℕ) (files : Option Files) (before now : ℕ) (failed : Bool) (last : Option (List ℕ)) : Type 0 where
+-- a file couldn't be read: the shelf's faults rose, its last call failed, and it was asked for that file
+pub record CannotRead (name : List ℕ) (before now : ShelfTells) : Type 0 where
+  pub rose : Rose before.faults now.faults
+  pub has_failed : now.failed ≡ true
+  pub asked_is : IfSome before.files (λ files. now.asked ≡ Some (asked_of files name))
+
+-- of the files with these names the one at a place couldn't be read
+pub record CannotReadAt (names : List (List ℕ)) (place : ℕ) (before now : ShelfTells) : Type 0 where
   pub place_is : place < length names
-  pub rose : Rose before now
-  pub has_failed : failed ≡ true
-  pub asked_is : IfSome files (λ files. last ≡ Some (asked_of files (slice_index_or names place [])))
+  pub cannot : CannotRead (slice_index_or names place []) before now
 
 -- what follows from a status that is a read fault
 abbrev pub IfReadFault : Status → (ℕ → Type 0) → Type 0
@@ -199,14 +201,14 @@ LeftOfTrace (status.ReadFault place) bytes rest = (rest ≡ None) ⊎ LeftUnrefu
 LeftOfTrace status.WriteFault bytes rest = LeftBehindPiece bytes rest
 LeftOfTrace other bytes rest = ⊤
 
--- where reading stood at the end, once the trace was asked for
-abbrev pub TraceReadsTo : Status → Files → Option (List ℕ) → Option (List ℕ) → Type 0
-TraceReadsTo status.NoMemory files last rest = ⊤
-TraceReadsTo result files last rest = (last ≡ Some (asked_of files trace_word)) × LeftOfTrace result (bytes_of files trace_word) rest
+-- where reading stood at the end, once the trace of this name was asked for
+abbrev pub TraceReadsTo : List ℕ → Status → Files → (last rest : Option (List ℕ)) → Type 0
+TraceReadsTo trace status.NoMemory files last rest = ⊤
+TraceReadsTo trace result files last rest = (last ≡ Some (asked_of files trace)) × LeftOfTrace result (bytes_of files trace) rest
 
 -- how many bytes are allowed of the specification's file at a place: what the files before it leave of the limit
 abbrev pub allowed_at : List (List ℕ) → Files → ℕ → ℕ
-allowed_at names files place = specification_limit - sum (map length (take place (sources_of files names)))
+allowed_at names files place = specification_limit - total (take place (sources_of files names))
 
 -- the shelf stands in a file of which more than some bytes were read, and at most one piece past them
 pub record StandsPastIn (files : Files) (name : List ℕ) (most : ℕ) (last rest : Option (List ℕ)) : Type 0 where
@@ -219,7 +221,7 @@ pub record StandsPastIn (files : Files) (name : List ℕ) (most : ℕ) (last res
 -- reading stands in the file of a specification with which the files are too long, past what is allowed of it by one piece at most
 pub record StandsPast (names : List (List ℕ)) (files : Files) (last rest : Option (List ℕ)) : Type 0 where
   pub place : ℕ
-  pub passes : passing specification_limit (sources_of files names) ≡ Some place
+  pub passes : IsPassedAt specification_limit (sources_of files names) place
   pub stands : StandsPastIn files (slice_index_or names place []) (allowed_at names files place) last rest
 
 -- reading stands at the end of the last file of a specification
@@ -227,10 +229,10 @@ abbrev pub StandsAfter : List (List ℕ) → Files → Option (List ℕ) → Opt
 StandsAfter names files last rest = StandsAtEnd files (slice_index_or names (length names - 1) []) last rest
 
 -- where reading stood where a read of a file failed: in a file of the specification no more than the allowed bytes were read before, and in the trace no refusal was known
-abbrev pub ReadShort : List (List ℕ) → ℕ → Files → Option (List ℕ) → Option (List ℕ) → Type 0
-ReadShort names place files last rest =
+abbrev pub ReadShort : (names : List (List ℕ)) (trace : List ℕ) (place : ℕ) → Files → (last rest : Option (List ℕ)) → Type 0
+ReadShort names trace place files last rest =
     ((place < length names) × StandsShort files (slice_index_or names place []) (allowed_at names files place) last rest)
-    ⊎ ((place ≡ length names) × TraceReadsTo (status.ReadFault place) files last rest)
+    ⊎ ((place ≡ length names) × TraceReadsTo trace (status.ReadFault place) files last rest)
 
 -- where reading stood where a specification was refused: no read is made after that is known
 abbrev pub RefusedReadsTo : List (List ℕ) → SpecFault → Files → Option (List ℕ) → Option (List ℕ) → Type 0
@@ -238,10 +240,10 @@ RefusedReadsTo names fault.TooLong files last rest = StandsPast names files last
 RefusedReadsTo names other files last rest = StandsAfter names files last rest
 
 -- where reading stood at the end of following a trace: no read is made after a refusal is known, and at most one piece was read past the byte that shows it
-abbrev pub FollowReadsTo : List (List ℕ) → Status → Files → Option (List ℕ) → Option (List ℕ) → Type 0
-FollowReadsTo names (status.Specification why) files last rest = RefusedReadsTo names why files last rest
-FollowReadsTo names (status.ReadFault place) files last rest = ReadShort names place files last rest
-FollowReadsTo names result files last rest = TraceReadsTo result files last rest
+abbrev pub FollowReadsTo : (names : List (List ℕ)) (trace : List ℕ) → Status → Files → (last rest : Option (List ℕ)) → Type 0
+FollowReadsTo names trace (status.Specification why) files last rest = RefusedReadsTo names why files last rest
+FollowReadsTo names trace (status.ReadFault place) files last rest = ReadShort names trace place files last rest
+FollowReadsTo names trace result files last rest = TraceReadsTo trace result files last rest
 
 -- where reading stood at the end of a command that reads a specification alone
 abbrev pub CheckReadsTo : List (List ℕ) → Status → Files → Option (List ℕ) → Option (List ℕ) → Type 0
@@ -250,11 +252,15 @@ CheckReadsTo names (status.ReadFault place) files last rest = StandsShort files 
 CheckReadsTo names status.NoMemory files last rest = ⊤
 CheckReadsTo names result files last rest = StandsAfter names files last rest
 
--- where reading stood at the end of a call, by what is asked: words in no form leave the shelf as it was
+-- where reading stood at the end of a command with these files of a specification, by the word of its trace, where it has one
+abbrev pub CommandReadsTo : List (List ℕ) → Option (List ℕ) → Status → Files → (last rest : Option (List ℕ)) → Type 0
+CommandReadsTo names None result files last rest = CheckReadsTo names result files last rest
+CommandReadsTo names (Some trace) result files last rest = FollowReadsTo names trace result files last rest
+
+-- where reading stood at the end of a call, by what is asked: words that ask for nothing leave the shelf as it was
 abbrev pub ReadsTo : Option Asked → Status → Files → (asked_before rest_before last rest : Option (List ℕ)) → Type 0
 ReadsTo None result files asked_before rest_before last rest = (last ≡ asked_before) × (rest ≡ rest_before)
-ReadsTo (Some (Check root names)) result files asked_before rest_before last rest = CheckReadsTo names result files last rest
-ReadsTo (Some (Follow full root names)) result files asked_before rest_before last rest = FollowReadsTo names result files last rest
+ReadsTo (Some question) result files asked_before rest_before last rest = CommandReadsTo (specification_words (Some question)) (trace_of question) result files last rest
 
 -- the file that was asked for last is one of these, or is still that of before the call
 abbrev pub AsksWithin : List (List ℕ) → Files → Option (List ℕ) → Option (List ℕ) → Type 0

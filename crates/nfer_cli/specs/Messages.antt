@@ -1,17 +1,20 @@
 -- The one line that standard error gets at each status.
-use Rattle.std.specs.Prelude.{ℕ, List, [], ◌++◌, codes, decimal}
+use Rattle.std.specs.Prelude.{ℕ, ℤ, List, [], ◌++◌, codes, decimal}
 use Rattle.std.specs.Fmt.{signed_decimal}
+use Rattle.nf_io.specs.Bytes.{Took, TookPrefix}
+use Rattle.nf_io.specs.Causes.{Rose}
+use Rattle.nf_io.specs.Tells.{SinkTells}
 use Rattle.nf_lex.specs.declared.fault.LexFault.{LexFault}
 use Rattle.nf_lex.specs.declared.fault.LexFault.TheVariants as lexical
-use Rattle.nf_line.specs.declared.faults.LineFault.{LineFault}
-use Rattle.nf_line.specs.declared.faults.LineFault.TheVariants as line_fault
-use Rattle.nf_line.specs.declared.faults.TraceFault.{TraceFault}
-use Rattle.nf_line.specs.declared.faults.TraceFault.TheVariants as trace_fault
+use Rattle.nf_line.specs.declared.fault.LineFault.{LineFault}
+use Rattle.nf_line.specs.declared.fault.LineFault.TheVariants as line_fault
+use Rattle.nf_line.specs.declared.fault.TraceFault.{TraceFault}
+use Rattle.nf_line.specs.declared.fault.TraceFault.TheVariants as trace_fault
 use Rattle.nf_spec.specs.declared.fault.SpecFault.{SpecFault}
 use Rattle.nf_spec.specs.declared.fault.SpecFault.TheVariants as fault
 use Rattle.nf_typing.specs.declared.fault.KindFault.{KindFault}
 use Rattle.nf_typing.specs.declared.fault.KindFault.TheVariants as kind
-use Rattle.nfer_cli.specs.Words.{file_word}
+use Rattle.nfer_cli.specs.Words.{word_at}
 use Rattle.nfer_cli.specs.declared.status.Status.{Status}
 use Rattle.nfer_cli.specs.declared.status.Status.TheVariants as status
 
@@ -61,31 +64,40 @@ line_text line_fault.Counts = codes "counts"
 abbrev pub at_trace_line : ℕ → List ℕ → List ℕ
 at_trace_line number what = codes "nfer: line " ++ decimal number ++ codes ": " ++ what ++ codes "\n"
 
+-- what is shown of a time that is less than the one before it
+abbrev pub fall_text : ℤ → ℤ → List ℕ
+fall_text kept found = codes "time " ++ signed_decimal found ++ codes " after " ++ signed_decimal kept
+
 -- the message of a refused trace
 unfoldable pub trace_message : TraceFault → List ℕ
 trace_message (trace_fault.Long number) = at_trace_line number (codes "long")
 trace_message (trace_fault.Line number fault) = at_trace_line number (line_text fault)
-trace_message (trace_fault.Order number kept found) = at_trace_line number (codes "time " ++ signed_decimal found ++ codes " after " ++ signed_decimal kept)
+trace_message (trace_fault.Order number kept found) = at_trace_line number (fall_text kept found)
 trace_message trace_fault.TooLong = codes "nfer: input too long\n"
 
--- the message of a refused specification, whose files are given by their places among the command's file words
+-- the message of a refused specification, whose files are given by their places among the file words of the command
 unfoldable pub specification_message : List (List ℕ) → SpecFault → List ℕ
-specification_message words fault.TooLong = codes "nfer: specification too long\n"
-specification_message words (fault.Lex place why) = at_line (file_word words place) (fault_line why) (fault_text why)
-specification_message words (fault.Grammar place line) = at_line (file_word words place) line (codes "grammar")
-specification_message words (fault.TooDeep place line) = at_line (file_word words place) line (codes "too deep")
-specification_message words (fault.NoModule name) = codes "nfer: no module " ++ name ++ codes "\n"
-specification_message words (fault.SameModule name) = codes "nfer: module " ++ name ++ codes " twice\n"
-specification_message words (fault.Kinds number why) = at_rule number (kind_text why)
-specification_message words (fault.Cycle head) = codes "nfer: cycle at " ++ head ++ codes "\n"
-specification_message words fault.NoMemory = codes "nfer: no memory\n"
+specification_message names fault.TooLong = codes "nfer: specification too long\n"
+specification_message names (fault.Lex place why) = at_line (word_at names place) (fault_line why) (fault_text why)
+specification_message names (fault.Grammar place line) = at_line (word_at names place) line (codes "grammar")
+specification_message names (fault.TooDeep place line) = at_line (word_at names place) line (codes "too deep")
+specification_message names (fault.NoModule name) = codes "nfer: no module " ++ name ++ codes "\n"
+specification_message names (fault.SameModule name) = codes "nfer: module " ++ name ++ codes " twice\n"
+specification_message names (fault.Kinds number why) = at_rule number (kind_text why)
+specification_message names (fault.Cycle head) = codes "nfer: cycle at " ++ head ++ codes "\n"
+specification_message names fault.NoMemory = codes "nfer: no memory\n"
 
--- the message of a status, and nothing where all is done
+-- the message of a status, by the file words of the command, and nothing where all is done
 unfoldable pub message : List (List ℕ) → Status → List ℕ
-message words status.Done = []
-message words status.Usage = codes "nfer: usage\n"
-message words (status.Specification why) = specification_message words why
-message words (status.Trace why) = trace_message why
-message words (status.ReadFault place) = codes "nfer: cannot read " ++ file_word words place ++ codes "\n"
-message words status.WriteFault = codes "nfer: cannot write\n"
-message words status.NoMemory = codes "nfer: no memory\n"
+message names status.Done = []
+message names status.Usage = codes "nfer: usage\n"
+message names (status.Specification why) = specification_message names why
+message names (status.Trace why) = trace_message why
+message names (status.ReadFault place) = codes "nfer: cannot read " ++ word_at names place ++ codes "\n"
+message names status.WriteFault = codes "nfer: cannot write\n"
+message names status.NoMemory = codes "nfer: no memory\n"
+
+-- a sink got a text: the whole of it unless the sink failed, and a prefix of it in any case
+pub record Reports (before now : SinkTells) (text : List ℕ) : Type 0 where
+  pub whole : ¬ Rose before.faults now.faults → Took before.taken now.taken text
+  pub part : TookPrefix before.taken now.taken text

@@ -1,7 +1,5 @@
 -- The exit status of each answer.
 use Rattle.std.specs.Prelude.{ℕ}
-use Rattle.nf_spec.specs.declared.fault.SpecFault.{SpecFault}
-use Rattle.nf_spec.specs.declared.fault.SpecFault.TheVariants as fault
 use Rattle.nfer_cli.specs.declared.status.Status.{Status}
 use Rattle.nfer_cli.specs.declared.status.Status.TheVariants as status
 
@@ -14,8 +12,3 @@ code_of (status.Trace why) = 3
 code_of (status.ReadFault place) = 4
 code_of status.WriteFault = 5
 code_of status.NoMemory = 6
-
--- the status of a refused specification; want of memory is none
-abbrev pub status_of_fault : SpecFault → Status
-status_of_fault fault.NoMemory = status.NoMemory
-status_of_fault why = status.Specification why

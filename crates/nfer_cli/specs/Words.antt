@@ -1,59 +1,38 @@
 -- The words of the command line, and what they ask for.
-use Rattle.std.specs.Prelude.{ℕ, ◌^◌, Bool, true, false, not, ◌&&◌, ◌==◌, nat_lt, nat_le, List, [], ◌∷◌, ◌++◌, length, count_by, flat_map, slice_get, bytes_eq, codes, Option, Some, None, if◌then◌else◌, slice_index_or}
+use Rattle.std.specs.Prelude.{◌≡◌, ℕ, ◌^◌, Bool, true, false, not, ◌&&◌, ◌==◌, nat_lt, List, [], ◌∷◌, ◌++◌, length, bytes_eq, codes, Option, Some, None, slice_index_or}
 use Rattle.std.specs.List.{list_all, list_any}
 use Rattle.nf_core.specs.Identifiers.{is_identifier}
 
--- a command with what it is given: `check [--module M] SPEC..`, with the root M, where it is given, and the words of the specification's files; and `follow --full [--module M] SPEC..`, with whether every candidate is held, the root and the files
-pub data Asked : Type 0 where
-  Check : Option (List ℕ) → List (List ℕ) → Asked
-  Follow : Bool → Option (List ℕ) → List (List ℕ) → Asked
+-- what the options of a command give: whether every candidate is held, and the module that is selected with those that it reaches, where one is named
+pub record Options : Type 0 where
+  pub full : Bool
+  pub root : Option (List ℕ)
 
--- an option as it is given: `--full`, or `--module` with the word behind it
-pub data Given : Type 0 where
-  Full : Given
-  Module : List ℕ → Given
+-- what no options give
+abbrev pub no_options : Options
+no_options = record { full = false; root = None }
 
--- an option in front of others, and the words behind all of them
-abbrev pub given_first : Given → List Given × List (List ℕ) → List Given × List (List ℕ)
-given_first option rest = (option ∷ rest.0, rest.1)
+-- a word is one of some words
+abbrev pub is_among : List ℕ → List (List ℕ) → Bool
+is_among word words = list_any (λ other. bytes_eq other word) words
 
--- the options that stand in front of some words, as they are given, and the words behind them
-unfoldable pub options_of : List (List ℕ) → List Given × List (List ℕ)
-options_of [] = ([], [])
-options_of (word ∷ []) = if bytes_eq word (codes "--full") then (Full ∷ [], []) else ([], word ∷ [])
-options_of (word ∷ next ∷ words) =
-    if bytes_eq word (codes "--full") then given_first Full (options_of (next ∷ words))
-    else (if bytes_eq word (codes "--module") then given_first (Module next) (options_of words) else ([], word ∷ next ∷ words))
+-- words that are options as they are spelled, in any order, each at most once and each among these names, and what they give; `--module` takes the word behind it, which is an identifier
+pub data Gives (names : List (List ℕ)) : List (List ℕ) → Options → Type 0 where
+  none : Gives names [] no_options
+  full : {words : List (List ℕ)} {options : Options}
+      → is_among (codes "--full") names ≡ true → options.full ≡ false → Gives names words options
+      → Gives names (codes "--full" ∷ words) (record options { full = true })
+  root : {words : List (List ℕ)} {options : Options} {name : List ℕ}
+      → is_among (codes "--module") names ≡ true → options.root ≡ None → is_identifier name ≡ true → Gives names words options
+      → Gives names (codes "--module" ∷ name ∷ words) (record options { root = Some name })
 
--- whether an option is `--full`
-abbrev pub is_full : Given → Bool
-is_full Full = true
-is_full (Module name) = false
+-- the options of `check`
+abbrev pub check_options : List (List ℕ)
+check_options = codes "--module" ∷ []
 
--- the modules that are named, as given
-abbrev pub module_of : Given → List (List ℕ)
-module_of Full = []
-module_of (Module name) = name ∷ []
-
-abbrev pub modules_of : List Given → List (List ℕ)
-modules_of given = flat_map module_of given
-
--- whether `--full` is given
-abbrev pub has_full : List Given → Bool
-has_full given = list_any is_full given
-
--- the module that is named first, where one is
-abbrev pub root_of : List Given → Option (List ℕ)
-root_of given = slice_get (modules_of given) 0
-
--- each option is given at most once, and a module's name is an identifier
-abbrev pub are_options : List Given → Bool
-are_options given = nat_le (count_by is_full given) 1 && nat_le (length (modules_of given)) 1 && list_all is_identifier (modules_of given)
-
--- an option as it is spelled
-abbrev pub spelled : Given → List (List ℕ)
-spelled Full = codes "--full" ∷ []
-spelled (Module name) = codes "--module" ∷ name ∷ []
+-- the options of `follow`
+abbrev pub follow_options : List (List ℕ)
+follow_options = codes "--full" ∷ codes "--module" ∷ []
 
 -- a file word doesn't begin with `-`
 abbrev pub is_file_word : List ℕ → Bool
@@ -64,37 +43,54 @@ is_file_word (byte ∷ bytes) = not (byte == 45)
 abbrev pub are_file_words : List (List ℕ) → Bool
 are_file_words files = nat_lt 0 (length files) && nat_lt (length files) (2 ^ 32) && list_all is_file_word files
 
--- what options and file words ask of `check`, which has no `--full`
-abbrev pub asked_of_check : List Given × List (List ℕ) → Option Asked
-asked_of_check words = if are_options words.0 && not (has_full words.0) && are_file_words words.1 then Some (Check (root_of words.0) words.1) else None
+-- a command with what its options give and the words of the specification's files
+pub data Asked : Type 0 where
+  Check : Options → List (List ℕ) → Asked
+  Follow : Options → List (List ℕ) → Asked
 
--- what options and file words ask of `follow`, which needs `--full`
-abbrev pub asked_of_follow : List Given × List (List ℕ) → Option Asked
-asked_of_follow words = if are_options words.0 && has_full words.0 && are_file_words words.1 then Some (Follow true (root_of words.0) words.1) else None
+-- what words ask for: they are the command, then its options, then file words; `follow` needs `--full`
+pub data Asks : List (List ℕ) → Asked → Type 0 where
+  check : {given files : List (List ℕ)} {options : Options}
+      → Gives check_options given options → are_file_words files ≡ true
+      → Asks (codes "check" ∷ given ++ files) (Check options files)
+  follow : {given files : List (List ℕ)} {options : Options}
+      → Gives follow_options given options → options.full ≡ true → are_file_words files ≡ true
+      → Asks (codes "follow" ∷ given ++ files) (Follow options files)
 
--- what some words ask for, by the command that stands first; nothing where they are in no form
-unfoldable pub asked : List (List ℕ) → Option Asked
-asked [] = None
-asked (command ∷ words) =
-    if bytes_eq command (codes "check") then asked_of_check (options_of words)
-    else (if bytes_eq command (codes "follow") then asked_of_follow (options_of words) else None)
+-- words ask for nothing
+abbrev pub AsksNothing : List (List ℕ) → Type 0
+AsksNothing words = (question : Asked) → ¬ Asks words question
 
--- the word under which a command reads its trace, standard input
+-- what words ask for, where they ask for anything
+abbrev pub AsksFor : List (List ℕ) → Option Asked → Type 0
+AsksFor words None = AsksNothing words
+AsksFor words (Some question) = Asks words question
+
+-- the word under which a command reads standard input
 abbrev pub trace_word : List ℕ
 trace_word = codes "-"
+
+-- the word of the trace that a command reads, where it reads one
+abbrev pub trace_of : Asked → Option (List ℕ)
+trace_of (Check options files) = None
+trace_of (Follow options files) = Some trace_word
 
 -- the words of a specification's files, in the order in which they are read
 abbrev pub specification_words : Option Asked → List (List ℕ)
 specification_words None = []
-specification_words (Some (Check root files)) = files
-specification_words (Some (Follow full root files)) = files
+specification_words (Some (Check options files)) = files
+specification_words (Some (Follow options files)) = files
+
+-- the words of files with that of a trace behind them, where there is one
+abbrev pub with_trace : List (List ℕ) → Option (List ℕ) → List (List ℕ)
+with_trace files None = files
+with_trace files (Some trace) = files ++ trace ∷ []
 
 -- the file words of a command in the order in which the files are read: a trace is read behind the specification
 abbrev pub file_words : Option Asked → List (List ℕ)
 file_words None = []
-file_words (Some (Check root files)) = files
-file_words (Some (Follow full root files)) = files ++ trace_word ∷ []
+file_words (Some question) = with_trace (specification_words (Some question)) (trace_of question)
 
--- the file word at a place, counted from 0
-abbrev pub file_word : List (List ℕ) → ℕ → List ℕ
-file_word words place = slice_index_or (file_words (asked words)) place []
+-- the word at a place of some words, counted from 0, and the empty word past them
+abbrev pub word_at : List (List ℕ) → ℕ → List ℕ
+word_at words place = slice_index_or words place []

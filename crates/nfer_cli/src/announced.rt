@@ -4,7 +4,7 @@ ghost use Rattle.std.specs.Prelude.{Some, refl};
 ghost use Rattle.std.specs.Ordering.{eq_by_cmp};
 ghost use Rattle.std.specs.Cmp.{partial_equiv_from_equiv, eq_by_cmp_equiv, po};
 ghost use Rattle.nfer_cli.specs.Announcements.{announcement_cmp};
-ghost use Rattle.nfer_cli.specs.AnnouncementOrder.{announcement_cmp_total};
+ghost use Rattle.nfer_cli.specs.inner.AnnouncementOrder.{announcement_cmp_total};
 
 use nf_core::Lines;
 use std::cmp::Ordering;

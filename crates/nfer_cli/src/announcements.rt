@@ -52,7 +52,8 @@ fn announced_in_order<'a>(
     items: &NamedList,
 ) -> Result<Vec<Announced<'a>>, NoMemory>
     requires { All (λ (item : Named). item.name < length plan.now.names) items.now }
-    ensures { IfOk result (λ announced. announced.items ≡ in_order (map (announcement plan.now) items.now)) }
+    ensures { IfOk result (λ announced.
+        announced.items ≡ in_order (map (announcement plan.now) items.now)) }
 {
     let mut announced = Vec::new(alloc);
     for item in items.as_slice() {

@@ -1,178 +1,131 @@
-//! The top call.
+//! A command, read from the words.
 
-ghost use Rattle.std.specs.Prelude.{◌≡◌, ◌⊎◌, ◌≢◌, ◌↔◌, ◌≤◌, ◌<◌, ◌^◌, false, IfSome, Some, None, length};
+ghost use Rattle.std.specs.Prelude.{◌≡◌, option_map};
 ghost use Rattle.std.specs.Option.{option_copied};
-ghost use Rattle.nf_io.specs.Causes.{Rose};
-ghost use Rattle.nf_io.specs.Bytes.{Took, TookPrefix};
-ghost use Rattle.nf_io.specs.Files.{bytes_of, asked_of};
-ghost use Rattle.nfer_cli.specs.Words.{asked, Follow, specification_words, file_words, trace_word};
-ghost use Rattle.nfer_cli.specs.Messages.{message};
-ghost use Rattle.nfer_cli.specs.Results.{end_of, IsTraceEnd};
-ghost use Rattle.nfer_cli.specs.Ended.{EndsTrace};
-ghost use Rattle.nfer_cli.specs.Faults.{CannotReadTrace};
-ghost use Rattle.nfer_cli.specs.Answers.{Defines, Answers, ReadsTo, AsksWithin, IfReadFault, is_read_fault, CannotRead, IsCompleteFor};
+ghost use Rattle.std.specs.List.{list_all};
+ghost use Rattle.nfer_cli.specs.Words.{are_file_words, is_file_word, specification_words, file_words, word_at, trace_of, no_options, check_options, follow_options};
+ghost use Rattle.nfer_cli.specs.inner.Options.{taken};
+ghost use Rattle.nfer_cli.specs.inner.Commands.{asked, asked_by, check_of, follow_of};
 
-use crate::checking::check;
-use crate::following::follow;
-use crate::messages::report;
-use crate::specified::read_specification;
-use crate::status::Status;
-use crate::words::{Command, TRACE_WORD, Words};
-use nf_core::{Plan, Steps, Text};
-use nf_io::{Failed, Shelf, Sink};
-use nf_model::Scratch;
-use nf_spec::{Compiled, every_specification_has_one_answer};
-use std::alloc::Global;
-use std::sync::ledger::Ledger;
+use crate::options::{CommandOptions, take_options};
+use nf_core::Text;
 
-/// Runs the command that the words ask for: it reads from the shelf, writes to `out`, writes the
-/// message of any status but `Done` to `err`, and answers the status.
-///
-/// What it writes and answers is a stated function of the bytes of the files: `Defines` of
-/// specs/Answers, by the order of refusals. A fault of the shelf or of `out`, or want of memory, may
-/// come before it; then a prefix of the defined text was written.
-pub fn run<F: Shelf, O: Sink, E: Sink, L: Ledger>(
-    alloc: Global,
-    words: &Words,
-    shelf: &mut F,
-    out: &mut O,
-    err: &mut E,
-    steps: &mut Steps<L>,
-) -> Status
-    // Words that are in no form, and only those, are refused as such.
-    ensures usage { (result ≡ Status.Usage) ↔ (asked words.now ≡ None) }
+// What the number of a specification's files stays below.
+const FILES_LIMIT: usize = 1 << 32;
 
-    // Where the shelf tells its files, the status and the text are those of a defined answer, unless
-    // a fault or want of memory came first: then a prefix of its text was written.
-    ensures answer { IfSome (F.files shelf.old) (λ files. Answers (asked words.now) files result (F.rest shelf.new) (O.taken out.old) (O.taken out.new)) }
+/// The word under which a command reads its trace from standard input.
+pub(crate) const TRACE_WORD: &str = "-";
 
-    // No read is made after a refusal is known: a read that fails comes before any byte past the
-    // allowed ones of a specification was read, and before the refusal of a line was. At the end of the
-    // trace it was read whole.
-    ensures reads { IfSome (F.files shelf.old) (λ files. ReadsTo (asked words.now) result files (F.asked shelf.old) (F.rest shelf.old) (F.asked shelf.new) (F.rest shelf.new)) }
-
-    // The file that is asked for last is one of the command's, or still that of before the call.
-    ensures asks { IfSome (F.files shelf.old) (λ files. AsksWithin (file_words (asked words.now)) files (F.asked shelf.old) (F.asked shelf.new)) }
-
-    // A fault comes only where its object failed in this call, and a read fault names the file. The last
-    // call of the shelf failed exactly where a read fault is answered.
-    ensures read_fault { IfReadFault result (λ place. CannotRead (file_words (asked words.now)) place (F.files shelf.old) (F.faults shelf.old) (F.faults shelf.new) (F.failed shelf.new) (F.asked shelf.new)) }
-    ensures failed { IfSome (asked words.now) (λ question. F.failed shelf.new ≡ is_read_fault result) }
-    ensures write_fault { result ≡ Status.WriteFault → Rose (O.faults out.old) (O.faults out.new) }
-
-    // Nothing is written before the specification was read, so at a read fault of one of its files nothing
-    // was.
-    ensures unread { IfReadFault result (λ place. place < length (specification_words (asked words.now)) → O.taken out.new ≡ O.taken out.old) }
-
-    // With no fault of the shelf or of the output the answer is a defined one, or want of memory.
-    ensures completes { ¬ (Rose (F.faults shelf.old) (F.faults shelf.new)) → ¬ (Rose (O.faults out.old) (O.faults out.new)) →
-        IfSome (F.files shelf.old) (λ files. IsCompleteFor (Defines (asked words.now) files) result) }
-
-    // Standard error gets the message of the status and nothing else, unless it fails itself.
-    ensures message { ¬ (Rose (E.faults err.old) (E.faults err.new)) → Took (E.taken err.old) (E.taken err.new) (message words.now result) }
-
-    // A sink that fails took a prefix of it.
-    ensures message_part { TookPrefix (E.taken err.old) (E.taken err.new) (message words.now result) }
-
-    // Words in no form leave the shelf as it was.
-    ensures untouched { result ≡ Status.Usage → F.faults shelf.new ≡ F.faults shelf.old }
-{
-    let status = carry_out(alloc, words, shelf, out, steps);
-    report(err, words, &status);
-    status
+/// A command with its options and the words of the specification's files (`Asked` of specs/Words.antt).
+#[derive(Debug, Clone, Copy)]
+pub(crate) enum Command<'a> {
+    /// Prints the specification in these files.
+    Check {
+        options: CommandOptions<'a>,
+        files: &'a [Text],
+    },
+    /// Follows a trace under the specification in these files.
+    Follow {
+        options: CommandOptions<'a>,
+        files: &'a [Text],
+    },
 }
 
-// Carries out what the words ask for.
-fn carry_out<F: Shelf, O: Sink, L: Ledger>(
-    alloc: Global,
-    words: &Words,
-    shelf: &mut F,
-    out: &mut O,
-    steps: &mut Steps<L>,
-) -> Status
-    ensures usage { (result ≡ Status.Usage) ↔ (asked words.now ≡ None) }
-    ensures answer { IfSome (F.files shelf.old) (λ files. Answers (asked words.now) files result (F.rest shelf.new) (O.taken out.old) (O.taken out.new)) }
-    ensures reads { IfSome (F.files shelf.old) (λ files. ReadsTo (asked words.now) result files (F.asked shelf.old) (F.rest shelf.old) (F.asked shelf.new) (F.rest shelf.new)) }
-    ensures asks { IfSome (F.files shelf.old) (λ files. AsksWithin (file_words (asked words.now)) files (F.asked shelf.old) (F.asked shelf.new)) }
-    ensures read_fault { IfReadFault result (λ place. CannotRead (file_words (asked words.now)) place (F.files shelf.old) (F.faults shelf.old) (F.faults shelf.new) (F.failed shelf.new) (F.asked shelf.new)) }
-    ensures unread { IfReadFault result (λ place. place < length (specification_words (asked words.now)) → O.taken out.new ≡ O.taken out.old) }
-    ensures failed { IfSome (asked words.now) (λ question. F.failed shelf.new ≡ is_read_fault result) }
-    ensures write_fault { result ≡ Status.WriteFault → Rose (O.faults out.old) (O.faults out.new) }
-    ensures untouched { result ≡ Status.Usage → F.faults shelf.new ≡ F.faults shelf.old }
-{
-    match words.command() {
-        Some(Command::Check { root, files }) => ended(check(alloc, root, files, shelf, out)),
-        Some(Command::Follow { full, root, files }) => {
-            ended(follow_files(alloc, full, root, files, shelf, out, steps))
+impl<'a> Command<'a> {
+    /// The command that some words ask for. None exactly where they ask for nothing (`asked` of
+    /// specs/inner/Commands.antt). Takes no memory.
+    #[tactic(auto, unfolding(crate::specs::inner::Commands::asked))]
+    pub(crate) fn parse(words: &'a [Text]) -> Option<Command<'a>>
+        ensures { option_map asked_by result ≡ asked words.now }
+    {
+        let (name, words) = words.split_first()?;
+        match name.as_str() {
+            "check" => parse_check(words),
+            "follow" => parse_follow(words),
+            _ => None,
         }
-        None => Status::Usage,
+    }
+
+    /// The word of the trace that the command reads, where it reads one (`trace_of` of
+    /// specs/Words.antt).
+    pub(crate) fn trace(self) -> Option<&'a str>
+        ensures { option_copied result ≡ trace_of (asked_by self.entry) }
+    {
+        match self {
+            Command::Check { .. } => None,
+            Command::Follow { .. } => Some(TRACE_WORD),
+        }
+    }
+
+    // The words of the specification's files.
+    fn files(self) -> &'a [Text]
+        ensures { result.now ≡ specification_words (Some (asked_by self.entry)) }
+    {
+        match self {
+            Command::Check { files, .. } | Command::Follow { files, .. } => files,
+        }
+    }
+
+    /// The file word at a place, counted from 0 (`file_words` of specs/Words.antt), and the empty text
+    /// past them.
+    pub(crate) fn file_word(self, place: usize) -> &'a str
+        ensures { result.now ≡ word_at (file_words (Some (asked_by self.entry))) place }
+    {
+        let files = self.files();
+        match files.get(place) {
+            Some(file) => file.as_str(),
+            None if place == files.len() => self.trace().unwrap_or(""),
+            None => "",
+        }
     }
 }
 
-// The status of a call that answers nothing else.
-fn ended(done: Result<(), Status>) -> Status
-    ensures { result ≡ end_of done }
+// What the words behind `check` ask for.
+fn parse_check<'a>(words: &'a [Text]) -> Option<Command<'a>>
+    ensures { option_map asked_by result ≡ check_of (taken check_options no_options words.now) }
 {
-    match done {
-        Ok(()) => Status::Done,
-        Err(status) => status,
+    let (options, files) = take_options(&["--module"], words)?;
+    if !are_file_words(files) {
+        return None;
+    }
+    Some(Command::Check { options, files })
+}
+
+// What the words behind `follow` ask for.
+fn parse_follow<'a>(words: &'a [Text]) -> Option<Command<'a>>
+    ensures { option_map asked_by result ≡ follow_of (taken follow_options no_options words.now) }
+{
+    let (options, files) = take_options(&["--full", "--module"], words)?;
+    if !options.full || !are_file_words(files) {
+        return None;
+    }
+    Some(Command::Follow { options, files })
+}
+
+// Whether words can be those of a specification's files: one or more, fewer than 2^32, and none
+// begins with `-`.
+fn are_file_words(files: &[Text]) -> bool
+    ensures { result ≡ are_file_words files.now }
+{
+    match files {
+        [] => false,
+        _ => files.len() < FILES_LIMIT && name_files(files),
     }
 }
 
-// Follows the trace under the specification in some files.
-fn follow_files<F: Shelf, O: Sink, L: Ledger>(
-    alloc: Global,
-    full: bool,
-    root: Option<&str>,
-    files: &[Text],
-    shelf: &mut F,
-    out: &mut O,
-    steps: &mut Steps<L>,
-) -> Result<(), Status>
-    requires some { 0 < length files.now }
-    requires few { length files.now < 2 ^ 32 }
-    ensures answer { IfSome (F.files shelf.old) (λ told. Answers (Some (Follow full (option_copied root.entry) files.now)) told (end_of result) (F.rest shelf.new) (O.taken out.old) (O.taken out.new)) }
-    ensures reads { IfSome (F.files shelf.old) (λ told. ReadsTo (Some (Follow full (option_copied root.entry) files.now)) (end_of result) told (F.asked shelf.old) (F.rest shelf.old) (F.asked shelf.new) (F.rest shelf.new)) }
-    ensures asks { IfSome (F.files shelf.old) (λ told. AsksWithin (file_words (Some (Follow full (option_copied root.entry) files.now))) told (F.asked shelf.old) (F.asked shelf.new)) }
-    ensures usage { end_of result ≢ Status.Usage }
-    ensures read_fault { IfReadFault (end_of result) (λ place. CannotRead (file_words (Some (Follow full (option_copied root.entry) files.now))) place (F.files shelf.old) (F.faults shelf.old) (F.faults shelf.new) (F.failed shelf.new) (F.asked shelf.new)) }
-    ensures unread { IfReadFault (end_of result) (λ place. place < length files.now → O.taken out.new ≡ O.taken out.old) }
-    ensures failed { F.failed shelf.new ≡ is_read_fault (end_of result) }
-    ensures write_fault { end_of result ≡ Status.WriteFault → Rose (O.faults out.old) (O.faults out.new) }
+// Whether each word can name a file.
+fn name_files(words: &[Text]) -> bool
+    ensures { result ≡ list_all is_file_word words.now }
 {
-    every_specification_has_one_answer();
-    let Compiled {
-        plan,
-        rules: _,
-        levels: _,
-    } = read_specification(alloc, shelf, files, root)?;
-    follow_under(alloc, &plan, full, files.len(), shelf, out, steps)
+    words.iter().all(|word| is_file_word(word.as_str()))
 }
 
-// Picks the trace, which is the file at a place, and follows it under a plan, with every candidate held
-// where `full` holds.
-fn follow_under<F: Shelf, O: Sink, L: Ledger>(
-    alloc: Global,
-    plan: &Plan,
-    full: bool,
-    place: usize,
-    shelf: &mut F,
-    out: &mut O,
-    steps: &mut Steps<L>,
-) -> Result<(), Status>
-    ensures answer { IfSome (F.files shelf.old) (λ files. EndsTrace plan.now full place (bytes_of files trace_word) (end_of result) (F.rest shelf.new) (O.taken out.old) (O.taken out.new)) }
-    ensures asks { IfSome (F.files shelf.old) (λ files. (F.asked shelf.new ≡ F.asked shelf.old) ⊎ (F.asked shelf.new ≡ Some (asked_of files trace_word))) }
-    ensures asked { IfSome (F.files shelf.old) (λ files. (end_of result ≡ Status.NoMemory) ⊎ (F.asked shelf.new ≡ Some (asked_of files trace_word))) }
-    ensures kinds { IsTraceEnd place (end_of result) }
-    ensures read_fault { IfReadFault (end_of result) (λ at. CannotReadTrace place at (F.files shelf.old) (F.faults shelf.old) (F.faults shelf.new) (F.failed shelf.new) (F.asked shelf.new)) }
-    ensures failed { F.failed shelf.old ≡ false → F.failed shelf.new ≡ is_read_fault (end_of result) }
-    ensures write_fault { end_of result ≡ Status.WriteFault → Rose (O.faults out.old) (O.faults out.new) }
-    ensures files { F.files shelf.new ≡ F.files shelf.old }
-    ensures never_falls { F.faults shelf.old ≤ F.faults shelf.new }
+// Whether a word can name a file: it doesn't begin with `-`.
+fn is_file_word(word: &str) -> bool
+    ensures { result ≡ is_file_word word.now }
 {
-    let scratch = Scratch::new(alloc, plan, full)?;
-    match shelf.pick(TRACE_WORD) {
-        Ok(()) => follow(alloc, plan, scratch, place, shelf, out, steps),
-        Err(Failed) => Err(Status::ReadFault(place)),
+    match word.as_bytes() {
+        [] => true,
+        [first, ..] => *first != b'-',
     }
 }

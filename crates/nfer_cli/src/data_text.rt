@@ -4,7 +4,7 @@ ghost use Rattle.std.specs.Prelude.{◌≡◌, ◌<◌, ◌++◌, ◌∷◌, [],
 ghost use Rattle.std.specs.Option.{option_copied};
 ghost use Rattle.nf_core.specs.Plan.{keys_of};
 ghost use Rattle.nfer_cli.specs.Announcements.{joined, present, data_text, text_of_value};
-ghost use Rattle.nfer_cli.specs.Cells.{part_of, cell_text};
+ghost use Rattle.nfer_cli.specs.inner.Cells.{part_of, cell_text};
 
 use itoa::Buffer;
 use nf_core::{Lines, NoMemory, Plan, Row, Value};
@@ -39,7 +39,8 @@ fn push_part(
     text: &mut Lines,
 ) -> Result<(), NoMemory>
     requires { name < length plan.now.names }
-    ensures { OnOk result (text.new ≡ text.old ++ joined (map (part_of part) (present (keys_of plan.now name) row.now))) }
+    ensures { OnOk result (text.new
+        ≡ text.old ++ joined (map (part_of part) (present (keys_of plan.now name) row.now))) }
 {
     let mut is_first = true;
     for place in 0..cell_count(plan, name, row) {
@@ -76,8 +77,10 @@ fn push_cell(
     is_first: bool,
     text: &mut Lines,
 ) -> Result<bool, NoMemory>
-    ensures text { OnOk result (text.new ≡ text.old ++ cell_text is_first part key.now (option_copied cell.entry)) }
-    ensures first { IfOk result (λ first. first ≡ (is_first && is_none (option_copied cell.entry))) }
+    ensures text { OnOk result (text.new
+        ≡ text.old ++ cell_text is_first part key.now (option_copied cell.entry)) }
+    ensures first { IfOk result (λ first.
+        first ≡ (is_first && is_none (option_copied cell.entry))) }
 {
     match cell {
         None => Ok(is_first),

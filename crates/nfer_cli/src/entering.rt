@@ -5,14 +5,13 @@ ghost use Rattle.nf_io.specs.Causes.{Rose};
 ghost use Rattle.nf_io.specs.Bytes.{Took};
 ghost use Rattle.nf_line.specs.Cutting.{CanBeRead};
 ghost use Rattle.nf_line.specs.Line.{line_within};
-ghost use Rattle.nf_line.specs.Trace.{fallen, Refused};
-ghost use Rattle.nfer_cli.specs.Answers.{status_of};
-ghost use Rattle.nfer_cli.specs.Follow.{entered};
-ghost use Rattle.nfer_cli.specs.Progress.{LeadsTo, StopsAt, Stopped, event_of, interval_of, entered_as, event_text, text_between};
-ghost use Rattle.nfer_cli.specs.Results.{IsFollowEnd};
+ghost use Rattle.nf_line.specs.Readings.{event_of};
+ghost use Rattle.nf_line.specs.Trace.{fallen};
+ghost use Rattle.nfer_cli.specs.Follow.{entered, event_text, text_between};
+ghost use Rattle.nfer_cli.specs.inner.Progress.{EndsRefused, LeadsTo, StopsAt, Stopped, entered_as, line_interval};
 
 use crate::announcements::write_change;
-use crate::status::Status;
+use crate::session_end::FollowEnd;
 use nf_core::{Interval, NoMemory, Plan, Steps};
 use nf_io::{Failed, Sink, write_all};
 use nf_line::{RawLine, TraceFault};
@@ -39,17 +38,17 @@ pub(crate) fn enter_line<I: Inferer + Drop, O: Sink, L: Ledger>(
     line: &[u8],
     out: &mut O,
     steps: &mut Steps<L>,
-) -> Result<Progress<I>, Status>
+) -> Result<Progress<I>, FollowEnd>
     requires plan { (I.content progress.inferer).plan ≡ plan.now }
     requires counted { progress.number + 1 < 2 ^ 64 }
     requires can_be_read { CanBeRead line.now }
     ensures plan { IfOk result (λ next. (I.content next.inferer).plan ≡ plan.now) }
     ensures counted { IfOk result (λ next. next.number ≡ progress.number + 1) }
-    ensures leads { IfOk result (λ next. LeadsTo (line_within line.now) (I.content progress.inferer) progress.number progress.last (I.content next.inferer) next.number next.last (O.taken out.old) (O.taken out.new)) }
-    ensures stops { IfErr result (λ status. StopsAt status (line_within line.now) (I.content progress.inferer) progress.number progress.last (O.taken out.old) (O.taken out.new)) }
-    ensures kinds { IfErr result IsFollowEnd }
-    ensures cause { result ≡ Err Status.WriteFault → Rose (O.faults out.old) (O.faults out.new) }
-    ensures never_falls { O.faults out.old ≤ O.faults out.new }
+    ensures leads { IfOk result (λ next. LeadsTo (line_within line.now) (I.content progress.inferer) progress.number progress.last (I.content next.inferer) next.number next.last (O.tells out.old).taken (O.tells out.new).taken) }
+    ensures stops { IfErr result (λ end. StopsAt end (line_within line.now) (I.content progress.inferer) progress.number progress.last (O.tells out.old).taken (O.tells out.new).taken) }
+    ensures cause { result ≡ Err FollowEnd.WriteFault
+        → Rose (O.tells out.old).faults (O.tells out.new).faults }
+    ensures never_falls { (O.tells out.old).faults ≤ (O.tells out.new).faults }
 {
     let Progress {
         inferer,
@@ -74,18 +73,18 @@ pub(crate) fn enter_line<I: Inferer + Drop, O: Sink, L: Ledger>(
                 last: Some(time),
             })
         }
-        Err(fault) => Err(Status::Trace(TraceFault::Line(number, fault))),
+        Err(fault) => Err(FollowEnd::Trace(TraceFault::Line(number, fault))),
     }
 }
 
 /// Refuses a time that is less than that of the last accepted line.
-fn check_order(number: u64, last: Option<i64>, time: i64) -> Result<(), Status>
+fn check_order(number: u64, last: Option<i64>, time: i64) -> Result<(), FollowEnd>
     ensures ok { OnOk result (fallen last time ≡ None) }
-    ensures err { IfErr result (λ status. IfSome (fallen last time) (λ refusal. status ≡ status_of (Refused number refusal))) }
+    ensures err { IfErr result (λ end. IfSome (fallen last time) (EndsRefused number end)) }
     ensures some { IsErr result → IsSome (fallen last time) }
 {
     match last {
-        Some(kept) if time < kept => Err(Status::Trace(TraceFault::Order {
+        Some(kept) if time < kept => Err(FollowEnd::Trace(TraceFault::Order {
             line: number,
             kept,
             found: time,
@@ -103,13 +102,14 @@ fn enter<I: Inferer + Drop, O: Sink, L: Ledger>(
     raw: &RawLine<'_>,
     out: &mut O,
     steps: &mut Steps<L>,
-) -> Result<I, Status>
+) -> Result<I, FollowEnd>
     requires { (I.content inferer).plan ≡ plan.now }
     ensures ok { IfOk result (λ next. (number : ℕ) → I.content next ≡ entered (I.content inferer) (event_of number raw.now)) }
-    ensures taken { OnOk result ((number : ℕ) → Took (O.taken out.old) (O.taken out.new) (event_text (I.content inferer) (event_of number raw.now))) }
-    ensures err { IfErr result (λ status. (number : ℕ) → Stopped status (event_text (I.content inferer) (event_of number raw.now)) (O.taken out.old) (O.taken out.new)) }
-    ensures cause { result ≡ Err Status.WriteFault → Rose (O.faults out.old) (O.faults out.new) }
-    ensures never_falls { O.faults out.old ≤ O.faults out.new }
+    ensures taken { OnOk result ((number : ℕ) → Took (O.tells out.old).taken (O.tells out.new).taken (event_text (I.content inferer) (event_of number raw.now))) }
+    ensures err { IfErr result (λ end. (number : ℕ) → Stopped end (event_text (I.content inferer) (event_of number raw.now)) (O.tells out.old).taken (O.tells out.new).taken) }
+    ensures cause { result ≡ Err FollowEnd.WriteFault
+        → Rose (O.tells out.old).faults (O.tells out.new).faults }
+    ensures never_falls { (O.tells out.old).faults ≤ (O.tells out.new).faults }
 {
     match plan.find(raw.name()) {
         Some(name) => announce(alloc, plan, inferer, name, raw, out, steps),
@@ -127,25 +127,27 @@ fn announce<I: Inferer + Drop, O: Sink, L: Ledger>(
     raw: &RawLine<'_>,
     out: &mut O,
     steps: &mut Steps<L>,
-) -> Result<I, Status>
+) -> Result<I, FollowEnd>
     requires plan { (I.content inferer).plan ≡ plan.now }
     requires name { name < length plan.now.names }
-    ensures ok { IfOk result (λ next. I.content next ≡ entered_as name raw.now (I.content inferer)) }
-    ensures taken { OnOk result (Took (O.taken out.old) (O.taken out.new) (text_between (I.content inferer) (entered_as name raw.now (I.content inferer)))) }
-    ensures err { IfErr result (λ status. Stopped status (text_between (I.content inferer) (entered_as name raw.now (I.content inferer))) (O.taken out.old) (O.taken out.new)) }
-    ensures cause { result ≡ Err Status.WriteFault → Rose (O.faults out.old) (O.faults out.new) }
-    ensures never_falls { O.faults out.old ≤ O.faults out.new }
+    ensures ok { IfOk result (λ next.
+        I.content next ≡ entered_as name raw.now (I.content inferer)) }
+    ensures taken { OnOk result (Took (O.tells out.old).taken (O.tells out.new).taken (text_between (I.content inferer) (entered_as name raw.now (I.content inferer)))) }
+    ensures err { IfErr result (λ end. Stopped end (text_between (I.content inferer) (entered_as name raw.now (I.content inferer))) (O.tells out.old).taken (O.tells out.new).taken) }
+    ensures cause { result ≡ Err FollowEnd.WriteFault
+        → Rose (O.tells out.old).faults (O.tells out.new).faults }
+    ensures never_falls { (O.tells out.old).faults ≤ (O.tells out.new).faults }
 {
     let interval = event_interval(alloc, plan, name, raw)?;
     let (next, change) = inferer.step(alloc, name, interval, steps)?;
     let lines = write_change(alloc, plan, &change)?;
     match write_all(out, lines.as_slice()) {
         Ok(()) => Ok(next),
-        Err(Failed) => Err(Status::WriteFault),
+        Err(Failed) => Err(FollowEnd::WriteFault),
     }
 }
 
-/// The interval of an accepted line under a name of the plan: it begins and ends at the line's time.
+/// The interval of an accepted line under a name of the plan.
 fn event_interval(
     alloc: Global,
     plan: &Plan,
@@ -153,12 +155,11 @@ fn event_interval(
     raw: &RawLine<'_>,
 ) -> Result<Interval, NoMemory>
     requires { name < length plan.now.names }
-    ensures { IfOk result (λ interval. interval ≡ interval_of plan.now name raw.now) }
+    ensures { IfOk result (λ interval. interval ≡ line_interval plan.now name raw.now) }
 {
-    let time = raw.time();
     Ok(Interval {
-        start: time,
-        stop: time,
+        start: raw.start(),
+        stop: raw.time(),
         row: raw.row(alloc, plan, name)?,
     })
 }

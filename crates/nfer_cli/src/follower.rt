@@ -7,11 +7,10 @@ ghost use Rattle.nf_line.specs.Cutting.{IsContent, used_of};
 ghost use Rattle.nf_line.specs.Trace.{trace, trace_limit, trace_so_far, Done};
 ghost use Rattle.nf_model.specs.Changes.{no_inputs};
 ghost use Rattle.nfer_cli.specs.Follow.{follow_text, due};
-ghost use Rattle.nfer_cli.specs.Progress.{StandsFor, TookOn, Stops};
-ghost use Rattle.nfer_cli.specs.Results.{IsFollowEnd, end_of};
+ghost use Rattle.nfer_cli.specs.inner.Progress.{StandsFor, TookOn, Stops};
 
 use crate::entering::{Progress, enter_line};
-use crate::status::Status;
+use crate::session_end::FollowEnd;
 use nf_core::{Plan, Steps};
 use nf_io::Sink;
 use nf_line::{
@@ -24,7 +23,7 @@ use std::sync::ledger::Ledger;
 
 /// An evaluator in the midst of a trace, with what is kept of a line that hasn't ended, the number of
 /// the next line, counted from 1, and the time of the last accepted one. What it stands for is
-/// `StandsFor` of specs/Progress.
+/// `StandsFor` of specs/inner/Progress.
 #[derive(Drop)]
 pub(crate) struct Follower<I> {
     inferer: I,
@@ -79,7 +78,7 @@ impl<I: Inferer + Drop> Follower<I> {
         piece: &[u8],
         out: &mut O,
         steps: &mut Steps<L>,
-    ) -> Result<Follower<I>, Status>
+    ) -> Result<Follower<I>, FollowEnd>
         requires plan { (I.content self.inferer).plan ≡ plan.now }
         requires counted { self.number + length piece.now ≤ 2 ^ 63 }
         ensures plan { IfOk result (λ next. (I.content next.inferer).plan ≡ plan.now) }
@@ -87,12 +86,12 @@ impl<I: Inferer + Drop> Follower<I> {
         ensures stands { IfOk result (λ next. (full : Bool) (bytes : List ℕ) → StandsFor plan.now full bytes (I.content self.inferer) self.number self.last self.liner
             → StandsFor plan.now full (bytes ++ piece.now) (I.content next.inferer) next.number next.last next.liner) }
         ensures taken { OnOk result ((full : Bool) (bytes : List ℕ) → StandsFor plan.now full bytes (I.content self.inferer) self.number self.last self.liner
-            → TookOn (O.taken out.old) (O.taken out.new) (due plan.now full bytes) (due plan.now full (bytes ++ piece.now))) }
-        ensures stops { IfErr result (λ status. (full : Bool) (bytes : List ℕ) → StandsFor plan.now full bytes (I.content self.inferer) self.number self.last self.liner
-            → Stops status (trace_so_far (bytes ++ piece.now)).ending (due plan.now full bytes) (due plan.now full (bytes ++ piece.now)) (O.taken out.old) (O.taken out.new)) }
-        ensures kinds { IfErr result IsFollowEnd }
-        ensures cause { result ≡ Err Status.WriteFault → Rose (O.faults out.old) (O.faults out.new) }
-        ensures never_falls { O.faults out.old ≤ O.faults out.new }
+            → TookOn (O.tells out.old).taken (O.tells out.new).taken (due plan.now full bytes) (due plan.now full (bytes ++ piece.now))) }
+        ensures stops { IfErr result (λ end. (full : Bool) (bytes : List ℕ) → StandsFor plan.now full bytes (I.content self.inferer) self.number self.last self.liner
+            → Stops end (trace_so_far (bytes ++ piece.now)).ending (due plan.now full bytes) (due plan.now full (bytes ++ piece.now)) (O.tells out.old).taken (O.tells out.new).taken) }
+        ensures cause { result ≡ Err FollowEnd.WriteFault
+            → Rose (O.tells out.old).faults (O.tells out.new).faults }
+        ensures never_falls { (O.tells out.old).faults ≤ (O.tells out.new).faults }
     {
         let mut follower = self;
         let mut rest = piece;
@@ -113,7 +112,7 @@ impl<I: Inferer + Drop> Follower<I> {
         piece: &[u8],
         out: &mut O,
         steps: &mut Steps<L>,
-    ) -> Result<(Follower<I>, usize), Status>
+    ) -> Result<(Follower<I>, usize), FollowEnd>
         requires plan { (I.content self.inferer).plan ≡ plan.now }
         requires counted { self.number + 1 < 2 ^ 64 }
         ensures plan { IfOk result (λ r. (I.content r.0.inferer).plan ≡ plan.now) }
@@ -123,12 +122,12 @@ impl<I: Inferer + Drop> Follower<I> {
         ensures stands { IfOk result (λ r. (full : Bool) (bytes : List ℕ) → StandsFor plan.now full bytes (I.content self.inferer) self.number self.last self.liner
             → StandsFor plan.now full (bytes ++ take (used_of piece.now) piece.now) (I.content r.0.inferer) r.0.number r.0.last r.0.liner) }
         ensures taken { OnOk result ((full : Bool) (bytes : List ℕ) → StandsFor plan.now full bytes (I.content self.inferer) self.number self.last self.liner
-            → TookOn (O.taken out.old) (O.taken out.new) (due plan.now full bytes) (due plan.now full (bytes ++ take (used_of piece.now) piece.now))) }
-        ensures stops { IfErr result (λ status. (full : Bool) (bytes : List ℕ) → StandsFor plan.now full bytes (I.content self.inferer) self.number self.last self.liner
-            → Stops status (trace_so_far (bytes ++ piece.now)).ending (due plan.now full bytes) (due plan.now full (bytes ++ piece.now)) (O.taken out.old) (O.taken out.new)) }
-        ensures kinds { IfErr result IsFollowEnd }
-        ensures cause { result ≡ Err Status.WriteFault → Rose (O.faults out.old) (O.faults out.new) }
-        ensures never_falls { O.faults out.old ≤ O.faults out.new }
+            → TookOn (O.tells out.old).taken (O.tells out.new).taken (due plan.now full bytes) (due plan.now full (bytes ++ take (used_of piece.now) piece.now))) }
+        ensures stops { IfErr result (λ end. (full : Bool) (bytes : List ℕ) → StandsFor plan.now full bytes (I.content self.inferer) self.number self.last self.liner
+            → Stops end (trace_so_far (bytes ++ piece.now)).ending (due plan.now full bytes) (due plan.now full (bytes ++ piece.now)) (O.tells out.old).taken (O.tells out.new).taken) }
+        ensures cause { result ≡ Err FollowEnd.WriteFault
+            → Rose (O.tells out.old).faults (O.tells out.new).faults }
+        ensures never_falls { (O.tells out.old).faults ≤ (O.tells out.new).faults }
     {
         lines_are_those_of_the_cut();
         lines_mean_their_pieces();
@@ -156,8 +155,8 @@ impl<I: Inferer + Drop> Follower<I> {
                     }
                 }
             }
-            Err(CutFault::Long) => Err(Status::Trace(TraceFault::Long(number))),
-            Err(CutFault::NoMemory) => Err(Status::NoMemory),
+            Err(CutFault::Long) => Err(FollowEnd::Trace(TraceFault::Long(number))),
+            Err(CutFault::NoMemory) => Err(FollowEnd::NoMemory),
         }
     }
 
@@ -169,18 +168,18 @@ impl<I: Inferer + Drop> Follower<I> {
         plan: &Plan,
         out: &mut O,
         steps: &mut Steps<L>,
-    ) -> Result<(), Status>
+    ) -> Result<(), FollowEnd>
         requires plan { (I.content self.inferer).plan ≡ plan.now }
         requires counted { self.number ≤ 2 ^ 63 }
         ensures done { OnOk result ((full : Bool) (bytes : List ℕ) → length bytes < trace_limit → StandsFor plan.now full bytes (I.content self.inferer) self.number self.last self.liner
             → (trace bytes).ending ≡ Done) }
         ensures taken { OnOk result ((full : Bool) (bytes : List ℕ) → length bytes < trace_limit → StandsFor plan.now full bytes (I.content self.inferer) self.number self.last self.liner
-            → TookOn (O.taken out.old) (O.taken out.new) (due plan.now full bytes) (follow_text plan.now full (trace bytes).events)) }
-        ensures stops { IfErr result (λ status. (full : Bool) (bytes : List ℕ) → length bytes < trace_limit → StandsFor plan.now full bytes (I.content self.inferer) self.number self.last self.liner
-            → Stops status (trace bytes).ending (due plan.now full bytes) (follow_text plan.now full (trace bytes).events) (O.taken out.old) (O.taken out.new)) }
-        ensures kinds { IfErr result IsFollowEnd }
-        ensures cause { result ≡ Err Status.WriteFault → Rose (O.faults out.old) (O.faults out.new) }
-        ensures never_falls { O.faults out.old ≤ O.faults out.new }
+            → TookOn (O.tells out.old).taken (O.tells out.new).taken (due plan.now full bytes) (follow_text plan.now full (trace bytes).events)) }
+        ensures stops { IfErr result (λ end. (full : Bool) (bytes : List ℕ) → length bytes < trace_limit → StandsFor plan.now full bytes (I.content self.inferer) self.number self.last self.liner
+            → Stops end (trace bytes).ending (due plan.now full bytes) (follow_text plan.now full (trace bytes).events) (O.tells out.old).taken (O.tells out.new).taken) }
+        ensures cause { result ≡ Err FollowEnd.WriteFault
+            → Rose (O.tells out.old).faults (O.tells out.new).faults }
+        ensures never_falls { (O.tells out.old).faults ≤ (O.tells out.new).faults }
     {
         lines_mean_their_pieces();
         let Follower {
@@ -199,7 +198,7 @@ impl<I: Inferer + Drop> Follower<I> {
                 };
                 match enter_line(alloc, plan, progress, line, out, steps) {
                     Ok(_) => Ok(()),
-                    Err(status) => Err(status),
+                    Err(end) => Err(end),
                 }
             }
         }

@@ -28,7 +28,8 @@ fn rules_by_level<'a>(
     rules: &'a RuleList,
     levels: &Levels,
 ) -> Result<Vec<&'a Rule>, NoMemory>
-    ensures { IfOk result (λ ordered. map (λ rule. rule.now) ordered.items ≡ by_level levels.now rules.now) }
+    ensures { IfOk result (λ ordered.
+        map (λ rule. rule.now) ordered.items ≡ by_level levels.now rules.now) }
 {
     let mut ordered = Vec::new(alloc);
     for rule in rules.as_slice() {

@@ -1,13 +1,12 @@
 //! The one line that standard error gets.
 
-ghost use Rattle.std.specs.Prelude.{◌≡◌, ◌≤◌, ◌++◌, codes, flat_map};
-ghost use Rattle.std.specs.Fmt.{signed_decimal};
-ghost use Rattle.nfer_cli.specs.Answers.{Reports};
-ghost use Rattle.nfer_cli.specs.Messages.{message, specification_message, at_line, at_rule, at_trace_line, trace_message, line_text, kind_text, fault_text, fault_line};
-ghost use Rattle.nfer_cli.specs.Words.{file_word};
+ghost use Rattle.std.specs.Prelude.{◌≡◌, ◌≤◌, flat_map};
+ghost use Rattle.nfer_cli.specs.Messages.{Reports, message, specification_message, at_line, at_rule, at_trace_line, trace_message, line_text, kind_text, fall_text, fault_text, fault_line};
+ghost use Rattle.nfer_cli.specs.Words.{word_at};
+ghost use Rattle.nfer_cli.specs.inner.Commands.{names_by};
 
+use crate::command::Command;
 use crate::status::Status;
-use crate::words::Words;
 use itoa::Buffer;
 use nf_io::{Failed, Sink, write_all};
 use nf_lex::LexFault;
@@ -15,47 +14,63 @@ use nf_line::{LineFault, TraceFault};
 use nf_spec::SpecFault;
 use nf_typing::KindFault;
 
-/// Writes the message of a status, and nothing where all is done (`message` of specs/Messages).
+/// Writes the message of the status that a command ended with, and nothing where all is done (`message` of
+/// specs/Messages.antt). Without a command the words ask for nothing.
 /// Takes no memory. A sink that fails took a prefix of it.
 #[tactic(auto, unfolding(crate::specs::Messages::message))]
-pub fn report<E: Sink>(err: &mut E, words: &Words, status: &Status)
-    ensures message { Reports (E.taken err.old) (E.taken err.new) (E.faults err.old) (E.faults err.new) (message words.now status.now) }
-    ensures never_falls { E.faults err.old ≤ E.faults err.new }
+pub(crate) fn report<E: Sink>(err: &mut E, command: Option<Command<'_>>, status: &Status)
+    ensures message { Reports (E.tells err.old) (E.tells err.new)
+        (message (names_by command.entry) status.now) }
+    ensures never_falls { (E.tells err.old).faults ≤ (E.tells err.new).faults }
 {
     let _written = match status {
         Status::Done => Ok(()),
         Status::Usage => write_texts(err, &["nfer: usage\n"]),
-        Status::Specification(fault) => write_specification_fault(err, words, fault),
+        Status::Specification(fault) => write_specification_fault(err, command, fault),
         Status::Trace(fault) => write_trace_fault(err, fault),
         Status::ReadFault(place) => {
-            write_texts(err, &["nfer: cannot read ", words.file_word(*place), "\n"])
+            write_texts(
+                err,
+                &["nfer: cannot read ", file_word(command, *place), "\n"],
+            )
         }
         Status::WriteFault => write_texts(err, &["nfer: cannot write\n"]),
         Status::NoMemory => write_texts(err, &["nfer: no memory\n"]),
     };
 }
 
+// The file word of a command at a place, counted from 0, and the empty text where there is none.
+fn file_word<'a>(command: Option<Command<'a>>, place: usize) -> &'a str
+    ensures { result.now ≡ word_at (names_by command.entry) place }
+{
+    match command {
+        Some(command) => command.file_word(place),
+        None => "",
+    }
+}
+
 // Writes the message of a refused specification.
 #[tactic(auto, unfolding(crate::specs::Messages::specification_message))]
 fn write_specification_fault<E: Sink>(
     err: &mut E,
-    words: &Words,
+    command: Option<Command<'_>>,
     fault: &SpecFault,
 ) -> Result<(), Failed>
-    ensures message { Reports (E.taken err.old) (E.taken err.new) (E.faults err.old) (E.faults err.new) (specification_message words.now fault.now) }
-    ensures never_falls { E.faults err.old ≤ E.faults err.new }
+    ensures message { Reports (E.tells err.old) (E.tells err.new)
+        (specification_message (names_by command.entry) fault.now) }
+    ensures never_falls { (E.tells err.old).faults ≤ (E.tells err.new).faults }
 {
     match fault {
         SpecFault::TooLong => write_texts(err, &["nfer: specification too long\n"]),
         SpecFault::Lex(place, fault) => {
-            let file = words.file_word(*place as usize);
+            let file = file_word(command, *place as usize);
             write_at_line(err, file, fault_line(fault), fault_text(fault))
         }
         SpecFault::Grammar(place, line) => {
-            write_at_line(err, words.file_word(*place as usize), *line, "grammar")
+            write_at_line(err, file_word(command, *place as usize), *line, "grammar")
         }
         SpecFault::TooDeep(place, line) => {
-            write_at_line(err, words.file_word(*place as usize), *line, "too deep")
+            write_at_line(err, file_word(command, *place as usize), *line, "too deep")
         }
         SpecFault::NoModule(name) => {
             write_texts(err, &["nfer: no module ", name.as_str(), "\n"])
@@ -71,8 +86,9 @@ fn write_specification_fault<E: Sink>(
 
 // Writes a refusal of a rule, by its number.
 fn write_at_rule<E: Sink>(err: &mut E, rule: u32, what: &str) -> Result<(), Failed>
-    ensures rule { Reports (E.taken err.old) (E.taken err.new) (E.faults err.old) (E.faults err.new) (at_rule rule what.now) }
-    ensures never_falls { E.faults err.old ≤ E.faults err.new }
+    ensures rule { Reports (E.tells err.old) (E.tells err.new)
+        (at_rule rule what.now) }
+    ensures never_falls { (E.tells err.old).faults ≤ (E.tells err.new).faults }
 {
     let mut number = Buffer::new();
     write_texts(err, &["nfer: rule ", number.format(rule), ": ", what, "\n"])
@@ -80,8 +96,9 @@ fn write_at_rule<E: Sink>(err: &mut E, rule: u32, what: &str) -> Result<(), Fail
 
 // Writes a refusal at a line of a file.
 fn write_at_line<E: Sink>(err: &mut E, file: &str, line: u64, what: &str) -> Result<(), Failed>
-    ensures line { Reports (E.taken err.old) (E.taken err.new) (E.faults err.old) (E.faults err.new) (at_line file.now line what.now) }
-    ensures never_falls { E.faults err.old ≤ E.faults err.new }
+    ensures line { Reports (E.tells err.old) (E.tells err.new)
+        (at_line file.now line what.now) }
+    ensures never_falls { (E.tells err.old).faults ≤ (E.tells err.new).faults }
 {
     let mut number = Buffer::new();
     write_texts(
@@ -93,8 +110,9 @@ fn write_at_line<E: Sink>(err: &mut E, file: &str, line: u64, what: &str) -> Res
 // Writes the message of a refused trace.
 #[tactic(auto, unfolding(crate::specs::Messages::trace_message))]
 fn write_trace_fault<E: Sink>(err: &mut E, fault: &TraceFault) -> Result<(), Failed>
-    ensures message { Reports (E.taken err.old) (E.taken err.new) (E.faults err.old) (E.faults err.new) (trace_message fault.now) }
-    ensures never_falls { E.faults err.old ≤ E.faults err.new }
+    ensures message { Reports (E.tells err.old) (E.tells err.new)
+        (trace_message fault.now) }
+    ensures never_falls { (E.tells err.old).faults ≤ (E.tells err.new).faults }
 {
     match fault {
         TraceFault::Long(line) => write_at_trace_line(err, *line, "long"),
@@ -106,8 +124,9 @@ fn write_trace_fault<E: Sink>(err: &mut E, fault: &TraceFault) -> Result<(), Fai
 
 // Writes a refusal of a line of the trace.
 fn write_at_trace_line<E: Sink>(err: &mut E, line: u64, what: &str) -> Result<(), Failed>
-    ensures line { Reports (E.taken err.old) (E.taken err.new) (E.faults err.old) (E.faults err.new) (at_trace_line line what.now) }
-    ensures never_falls { E.faults err.old ≤ E.faults err.new }
+    ensures line { Reports (E.tells err.old) (E.tells err.new)
+        (at_trace_line line what.now) }
+    ensures never_falls { (E.tells err.old).faults ≤ (E.tells err.new).faults }
 {
     let mut number = Buffer::new();
     write_texts(err, &["nfer: line ", number.format(line), ": ", what, "\n"])
@@ -115,8 +134,9 @@ fn write_at_trace_line<E: Sink>(err: &mut E, line: u64, what: &str) -> Result<()
 
 // Writes the refusal of a time that is less than the one before it.
 fn write_order<E: Sink>(err: &mut E, line: u64, kept: i64, found: i64) -> Result<(), Failed>
-    ensures order { Reports (E.taken err.old) (E.taken err.new) (E.faults err.old) (E.faults err.new) (at_trace_line line (codes "time " ++ signed_decimal found ++ codes " after " ++ signed_decimal kept)) }
-    ensures never_falls { E.faults err.old ≤ E.faults err.new }
+    ensures order { Reports (E.tells err.old) (E.tells err.new)
+        (at_trace_line line (fall_text kept found)) }
+    ensures never_falls { (E.tells err.old).faults ≤ (E.tells err.new).faults }
 {
     let mut number = Buffer::new();
     let mut found_time = Buffer::new();
@@ -191,8 +211,9 @@ fn fault_line(fault: &LexFault) -> u64
 
 // Writes texts one after the other.
 fn write_texts<E: Sink>(err: &mut E, texts: &[&str]) -> Result<(), Failed>
-    ensures texts { Reports (E.taken err.old) (E.taken err.new) (E.faults err.old) (E.faults err.new) (flat_map (λ text. text.now) texts.now) }
-    ensures never_falls { E.faults err.old ≤ E.faults err.new }
+    ensures texts { Reports (E.tells err.old) (E.tells err.new)
+        (flat_map (λ text. text.now) texts.now) }
+    ensures never_falls { (E.tells err.old).faults ≤ (E.tells err.new).faults }
 {
     for text in texts {
         write_all(err, text.as_bytes())?;

@@ -1,75 +1,75 @@
 //! The options in front of file words.
 
-ghost use Rattle.std.specs.Prelude.{◌≡◌, ◌<◌, length, option_map, IfSome};
-ghost use Rattle.nfer_cli.specs.Options.{accepted, accepted_by, given_by, kept_by, kept_with, first_by, options_from};
-ghost use Rattle.nfer_cli.specs.Words.{options_of};
+ghost use Rattle.std.specs.List.{list_any};
+ghost use Rattle.std.specs.Prelude.{◌≡◌, ◌≤◌, bytes_eq, length, option_map, IfSome};
+ghost use Rattle.nfer_cli.specs.inner.Options.{AreWithOption, given_by, taken, taken_by, words_by};
+ghost use Rattle.nfer_cli.specs.Words.{no_options};
 
 use nf_core::Text;
 use nf_lex::is_identifier;
 
-/// The options of a command.
+/// The options of a command (`Options` of specs/Words.antt).
 #[derive(Debug, Clone, Copy)]
-pub(crate) struct Options<'a> {
+pub(crate) struct CommandOptions<'a> {
     /// Whether every candidate is held.
     pub full: bool,
-    /// The module that is selected with those that it reaches.
+    /// The module that is selected with those that it reaches, where one is named.
     pub root: Option<&'a str>,
 }
 
-// An option of a command (`Given` of specs/Words.antt).
-#[derive(Debug, Clone, Copy)]
-enum CommandOption<'a> {
-    Full,
-    Module(&'a str),
-}
-
-/// The options that stand in front of some words, in any order, and the words behind them. None exactly
-/// where an option stands twice or a module's name is no identifier (`are_options` of specs/Words.antt).
-/// Takes no memory.
-pub(crate) fn take_options<'a>(words: &'a [Text]) -> Option<(Options<'a>, &'a [Text])>
-    ensures { option_map accepted_by result ≡ accepted (options_of words.now) }
+/// The options of these names that stand in front of some words, in any order, and the words behind
+/// them. None exactly where one is given twice or `--module` names no identifier (`taken` of
+/// specs/inner/Options.antt). Takes no memory.
+pub(crate) fn take_options<'a>(
+    names: &[&str],
+    words: &'a [Text],
+) -> Option<(CommandOptions<'a>, &'a [Text])>
+    ensures { option_map taken_by result ≡ taken (words_by names.now) no_options words.now }
 {
-    let mut options = Options {
+    let mut options = CommandOptions {
         full: false,
         root: None,
     };
     let mut rest = words;
-    'options: while let Some((option, others)) = first_option(rest) {
-        options = options.with(option)?;
-        rest = others;
+    'options: while let Some((word, others)) = rest.split_first() {
+        if !is_among(word.as_str(), names) {
+            return Some((options, rest));
+        }
+        let (more, behind) = options.with(word.as_str(), others)?;
+        options = more;
+        rest = behind;
     }
     Some((options, rest))
 }
 
-// The option that stands first in front of some words, and the words behind it. None exactly where no
-// option stands there; `--module` is one only with a word behind it.
-#[tactic(auto, using(crate::proofs::FirstOption::full_first, crate::proofs::FirstOption::module_first, crate::proofs::FirstOption::none_first, crate::proofs::FirstOption::no_module), unfolding(crate::specs::Words::options_of))]
-fn first_option<'a>(words: &'a [Text]) -> Option<(CommandOption<'a>, &'a [Text])>
-    ensures first { options_of words.now ≡ options_from (option_map first_by result) words.now }
-    ensures fewer { IfSome result (λ first. length first.1.now < length words.now) }
+// Whether a word is one of some names.
+fn is_among(word: &str, names: &[&str]) -> bool
+    ensures { result ≡ list_any (λ name. bytes_eq name.now word.now) names.now }
 {
-    match words {
-        [option, others @ ..] if option.as_str() == "--full" => Some((CommandOption::Full, others)),
-        [option, name, others @ ..] if option.as_str() == "--module" => {
-            Some((CommandOption::Module(name.as_str()), others))
-        }
-        _ => None,
-    }
+    names.iter().any(|name| *name == word)
 }
 
-impl<'a> Options<'a> {
-    // These options with one more behind them. None exactly where it is among them, or names no
-    // identifier.
-    fn with(self, option: CommandOption<'a>) -> Option<Options<'a>>
-        ensures { option_map kept_by result ≡ kept_with (kept_by self.entry) (given_by option.entry) }
+impl<'a> CommandOptions<'a> {
+    // These options with one more, by its name and the words behind it, and the words behind all of it.
+    // None exactly where it is given already, or names no module.
+    fn with(self, name: &str, words: &'a [Text]) -> Option<(CommandOptions<'a>, &'a [Text])>
+        ensures taken { AreWithOption (given_by self.entry) name.now words.now
+            (option_map taken_by result) }
+        ensures no_more { IfSome result (λ taken. length taken.1.now ≤ length words.now) }
     {
-        match (option, self.root) {
-            (CommandOption::Full, root) if !self.full => Some(Options { full: true, root }),
-            (CommandOption::Module(name), None) if is_identifier(name.as_bytes()) => {
-                Some(Options {
-                    full: self.full,
-                    root: Some(name),
-                })
+        match name {
+            "--full" if !self.full => Some((CommandOptions { full: true, ..self }, words)),
+            "--module" if self.root.is_none() => {
+                let (root, others) = words.split_first()?;
+                let root = root.as_str();
+                if !is_identifier(root.as_bytes()) {
+                    return None;
+                }
+                let options = CommandOptions {
+                    root: Some(root),
+                    ..self
+                };
+                Some((options, others))
             }
             _ => None,
         }

@@ -1,10 +1,8 @@
 //! Files read whole, in pieces.
 
-ghost use Rattle.std.specs.Prelude.{◌≡◌, ◌≢◌, ◌+◌, ◌<◌, ◌≤◌, [], length, vec_len, List, ℕ, true, false, IsTrue, IfOk, IfSome, OnOk};
+ghost use Rattle.std.specs.Prelude.{◌≡◌, ◌≢◌, ◌+◌, ◌<◌, ◌≤◌, [], length, vec_len, false, IsTrue, IfOk, OnOk};
 ghost use Rattle.nf_io.specs.Causes.{Rose};
-ghost use Rattle.nf_io.specs.Files.{bytes_of, asked_of};
-ghost use Rattle.nfer_cli.specs.Answers.{StandsPastIn, StandsAtEnd, StandsShort};
-ghost use Rattle.nfer_cli.specs.Reading.{HasRead, HasEnded, HasPassed, HasStopped, is_unreadable};
+ghost use Rattle.nfer_cli.specs.inner.Reading.{AsksFor, EndsIn, IsFile, IsLonger, PassesIn, ReadsOn, ReadsPast, ReadsShort, ReadsToEnd, StopsIn, is_unreadable};
 ghost use Rattle.nfer_cli.specs.declared.reading.Unread.TheVariants.{NoMemory as no_memory, Unreadable as unreadable};
 
 use nf_core::{Lines, NoMemory};
@@ -60,17 +58,20 @@ pub fn read_file<F: Shelf>(
     name: &str,
     most: usize,
 ) -> Result<Lines, Unread>
-    ensures files { F.files shelf.new ≡ F.files shelf.old }
-    ensures never_falls { F.faults shelf.old ≤ F.faults shelf.new }
-    ensures bytes { IfOk result (λ bytes. IfSome (F.files shelf.old) (λ files. bytes ≡ bytes_of files name.now)) }
+    ensures files { (F.tells shelf.new).files ≡ (F.tells shelf.old).files }
+    ensures never_falls { (F.tells shelf.old).faults ≤ (F.tells shelf.new).faults }
+    ensures bytes { IfOk result (IsFile (F.tells shelf.old) name.now) }
     ensures fits { IfOk result (λ bytes. length bytes ≤ most) }
-    ensures end { OnOk result (IfSome (F.files shelf.old) (λ files. StandsAtEnd files name.now (F.asked shelf.new) (F.rest shelf.new))) }
-    ensures too_long { result ≡ Err Unread.TooLong → IfSome (F.files shelf.old) (λ files. most < length (bytes_of files name.now)) }
-    ensures stopped { result ≡ Err Unread.TooLong → IfSome (F.files shelf.old) (λ files. StandsPastIn files name.now most (F.asked shelf.new) (F.rest shelf.new)) }
-    ensures unread { result ≡ Err Unread.Unreadable → IfSome (F.files shelf.old) (λ files. StandsShort files name.now most (F.asked shelf.new) (F.rest shelf.new)) }
-    ensures cause { result ≡ Err Unread.Unreadable → Rose (F.faults shelf.old) (F.faults shelf.new) }
-    ensures failed { F.failed shelf.new ≡ is_unreadable result }
-    ensures asked { IfSome (F.files shelf.old) (λ files. F.asked shelf.new ≡ Some (asked_of files name.now)) }
+    ensures end { OnOk result (EndsIn name.now (F.tells shelf.old) (F.tells shelf.new)) }
+    ensures too_long { result ≡ Err Unread.TooLong → IsLonger (F.tells shelf.old) name.now most }
+    ensures stopped { result ≡ Err Unread.TooLong
+        → PassesIn name.now most (F.tells shelf.old) (F.tells shelf.new) }
+    ensures unread { result ≡ Err Unread.Unreadable
+        → StopsIn name.now most (F.tells shelf.old) (F.tells shelf.new) }
+    ensures cause { result ≡ Err Unread.Unreadable
+        → Rose (F.tells shelf.old).faults (F.tells shelf.new).faults }
+    ensures failed { (F.tells shelf.new).failed ≡ is_unreadable result }
+    ensures asked { AsksFor name.now (F.tells shelf.old) (F.tells shelf.new) }
 {
     shelf.pick(name)?;
     let mut buffer = new_buffer(alloc)?;
@@ -95,15 +96,19 @@ fn read_rest<F: Shelf>(
 ) -> Result<(), Unread>
     requires room { length buffer.old ≡ PIECE_LIMIT }
     requires within { length bytes.old ≤ most }
-    ensures files { F.files shelf.new ≡ F.files shelf.old }
-    ensures asked { F.asked shelf.new ≡ F.asked shelf.old }
-    ensures never_falls { F.faults shelf.old ≤ F.faults shelf.new }
+    ensures files { (F.tells shelf.new).files ≡ (F.tells shelf.old).files }
+    ensures asked { (F.tells shelf.new).asked ≡ (F.tells shelf.old).asked }
+    ensures never_falls { (F.tells shelf.old).faults ≤ (F.tells shelf.new).faults }
     ensures fits { OnOk result (length bytes.new ≤ most) }
-    ensures end { OnOk result ((whole : List ℕ) → HasRead whole bytes.old (F.rest shelf.old) → HasEnded whole bytes.new (F.rest shelf.new)) }
-    ensures too_long { result ≡ Err Unread.TooLong → (whole : List ℕ) → HasRead whole bytes.old (F.rest shelf.old) → HasPassed most PIECE_LIMIT whole (F.rest shelf.new) }
-    ensures unread { result ≡ Err Unread.Unreadable → (whole : List ℕ) → HasRead whole bytes.old (F.rest shelf.old) → HasStopped most whole (F.rest shelf.new) }
-    ensures cause { result ≡ Err Unread.Unreadable → Rose (F.faults shelf.old) (F.faults shelf.new) }
-    ensures failed { F.failed shelf.new ≡ is_unreadable result }
+    ensures end { OnOk result
+        (ReadsToEnd (F.tells shelf.old) bytes.old (F.tells shelf.new) bytes.new) }
+    ensures too_long { result ≡ Err Unread.TooLong
+        → ReadsPast most (F.tells shelf.old) bytes.old (F.tells shelf.new) }
+    ensures unread { result ≡ Err Unread.Unreadable
+        → ReadsShort most (F.tells shelf.old) bytes.old (F.tells shelf.new) }
+    ensures cause { result ≡ Err Unread.Unreadable
+        → Rose (F.tells shelf.old).faults (F.tells shelf.new).faults }
+    ensures failed { (F.tells shelf.new).failed ≡ is_unreadable result }
 {
     'pieces: while read_within(shelf, buffer, most, bytes)? {}
     Ok(())
@@ -119,17 +124,22 @@ fn read_within<F: Shelf>(
 ) -> Result<bool, Unread>
     requires room { length buffer.old ≡ PIECE_LIMIT }
     requires within { length bytes.old ≤ most }
-    ensures files { F.files shelf.new ≡ F.files shelf.old }
-    ensures asked { F.asked shelf.new ≡ F.asked shelf.old }
-    ensures never_falls { F.faults shelf.old ≤ F.faults shelf.new }
+    ensures files { (F.tells shelf.new).files ≡ (F.tells shelf.old).files }
+    ensures asked { (F.tells shelf.new).asked ≡ (F.tells shelf.old).asked }
+    ensures never_falls { (F.tells shelf.old).faults ≤ (F.tells shelf.new).faults }
     ensures more { IfOk result (λ more. IsTrue more → length bytes.old < length bytes.new) }
     ensures fits { OnOk result (length bytes.new ≤ most) }
-    ensures reads { OnOk result ((whole : List ℕ) → HasRead whole bytes.old (F.rest shelf.old) → HasRead whole bytes.new (F.rest shelf.new)) }
-    ensures end { IfOk result (λ more. more ≡ false → (whole : List ℕ) → HasRead whole bytes.old (F.rest shelf.old) → HasEnded whole bytes.new (F.rest shelf.new)) }
-    ensures too_long { result ≡ Err Unread.TooLong → (whole : List ℕ) → HasRead whole bytes.old (F.rest shelf.old) → HasPassed most PIECE_LIMIT whole (F.rest shelf.new) }
-    ensures unread { result ≡ Err Unread.Unreadable → F.rest shelf.new ≡ F.rest shelf.old }
-    ensures cause { result ≡ Err Unread.Unreadable → Rose (F.faults shelf.old) (F.faults shelf.new) }
-    ensures failed { F.failed shelf.new ≡ is_unreadable result }
+    ensures reads { OnOk result
+        (ReadsOn (F.tells shelf.old) bytes.old (F.tells shelf.new) bytes.new) }
+    ensures end { IfOk result (λ more. more ≡ false
+        → ReadsToEnd (F.tells shelf.old) bytes.old (F.tells shelf.new) bytes.new) }
+    ensures too_long { result ≡ Err Unread.TooLong
+        → ReadsPast most (F.tells shelf.old) bytes.old (F.tells shelf.new) }
+    ensures unread { result ≡ Err Unread.Unreadable
+        → (F.tells shelf.new).rest ≡ (F.tells shelf.old).rest }
+    ensures cause { result ≡ Err Unread.Unreadable
+        → Rose (F.tells shelf.old).faults (F.tells shelf.new).faults }
+    ensures failed { (F.tells shelf.new).failed ≡ is_unreadable result }
 {
     let more = read_piece(shelf, buffer, bytes)?;
     if bytes.as_slice().len() > most {
@@ -141,17 +151,21 @@ fn read_within<F: Shelf>(
 // Reads one piece of the current file, and puts it behind the bytes. Answers whether there was one.
 fn read_piece<F: Shelf>(shelf: &mut F, buffer: &mut [u8], bytes: &mut Lines) -> Result<bool, Unread>
     requires { length buffer.old ≡ PIECE_LIMIT }
-    ensures files { F.files shelf.new ≡ F.files shelf.old }
-    ensures asked { F.asked shelf.new ≡ F.asked shelf.old }
-    ensures never_falls { F.faults shelf.old ≤ F.faults shelf.new }
+    ensures files { (F.tells shelf.new).files ≡ (F.tells shelf.old).files }
+    ensures asked { (F.tells shelf.new).asked ≡ (F.tells shelf.old).asked }
+    ensures never_falls { (F.tells shelf.old).faults ≤ (F.tells shelf.new).faults }
     ensures more { IfOk result (λ more. IsTrue more → length bytes.old < length bytes.new) }
     ensures piece { OnOk result (length bytes.new ≤ length bytes.old + PIECE_LIMIT) }
-    ensures reads { OnOk result ((whole : List ℕ) → HasRead whole bytes.old (F.rest shelf.old) → HasRead whole bytes.new (F.rest shelf.new)) }
-    ensures end { IfOk result (λ more. more ≡ false → (whole : List ℕ) → HasRead whole bytes.old (F.rest shelf.old) → HasEnded whole bytes.new (F.rest shelf.new)) }
+    ensures reads { OnOk result
+        (ReadsOn (F.tells shelf.old) bytes.old (F.tells shelf.new) bytes.new) }
+    ensures end { IfOk result (λ more. more ≡ false
+        → ReadsToEnd (F.tells shelf.old) bytes.old (F.tells shelf.new) bytes.new) }
     ensures within { result ≢ Err Unread.TooLong }
-    ensures unread { result ≡ Err Unread.Unreadable → F.rest shelf.new ≡ F.rest shelf.old }
-    ensures cause { result ≡ Err Unread.Unreadable → Rose (F.faults shelf.old) (F.faults shelf.new) }
-    ensures failed { F.failed shelf.new ≡ is_unreadable result }
+    ensures unread { result ≡ Err Unread.Unreadable
+        → (F.tells shelf.new).rest ≡ (F.tells shelf.old).rest }
+    ensures cause { result ≡ Err Unread.Unreadable
+        → Rose (F.tells shelf.old).faults (F.tells shelf.new).faults }
+    ensures failed { (F.tells shelf.new).failed ≡ is_unreadable result }
 {
     let count = shelf.read(buffer)?;
     bytes.push(&buffer[..count])?;

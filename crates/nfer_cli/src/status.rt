@@ -1,13 +1,12 @@
 //! The statuses of the program.
 
 ghost use Rattle.std.specs.Prelude.{◌≡◌};
-ghost use Rattle.nfer_cli.specs.Statuses.{code_of, status_of_fault};
-ghost use Rattle.nfer_cli.specs.declared.status.Status.TheVariants.{NoMemory as no_memory};
+ghost use Rattle.nfer_cli.specs.Statuses.{code_of};
+ghost use Rattle.nfer_cli.specs.inner.Failures.{failed_status};
 
-use nf_core::NoMemory;
+use crate::fault::Failure;
 use nf_line::TraceFault;
 use nf_spec::SpecFault;
-use std::alloc::AllocError;
 
 /// How a call ended. A status carries what its message shows.
 #[derive(Debug, Drop, PartialEq, Eq)]
@@ -29,7 +28,7 @@ pub enum Status {
 }
 
 impl Status {
-    /// The exit status of the program, from 0 to 9 (`code_of` of specs/Statuses).
+    /// The exit status of the program, from 0 to 6 (`code_of` of specs/Statuses).
     pub fn code(&self) -> u8
         ensures { result ≡ code_of self.now }
     {
@@ -45,29 +44,16 @@ impl Status {
     }
 }
 
-impl From<NoMemory> for Status {
-    ghost from_gives = { λ _ status. status ≡ no_memory };
+impl From<Failure> for Status {
+    ghost from_gives = { λ failure status. status ≡ failed_status failure };
 
-    fn from(_error: NoMemory) -> Status {
-        Status::NoMemory
-    }
-}
-
-impl From<AllocError> for Status {
-    ghost from_gives = { λ _ status. status ≡ no_memory };
-
-    fn from(_error: AllocError) -> Status {
-        Status::NoMemory
-    }
-}
-
-impl From<SpecFault> for Status {
-    ghost from_gives = { λ fault status. status ≡ status_of_fault fault };
-
-    fn from(fault: SpecFault) -> Status {
-        match fault {
-            SpecFault::NoMemory => Status::NoMemory,
-            fault => Status::Specification(fault),
+    fn from(failure: Failure) -> Status {
+        match failure {
+            Failure::Specification(fault) => Status::Specification(fault),
+            Failure::Trace(fault) => Status::Trace(fault),
+            Failure::Read(place) => Status::ReadFault(place),
+            Failure::Write => Status::WriteFault,
+            Failure::NoMemory => Status::NoMemory,
         }
     }
 }

@@ -2,7 +2,7 @@ use Rattle.std.proofs.Common.{flat_map}
 use Rattle.std.proofs.lemmas.Result.{on_ok_weaker}
 use Rattle.nf_core.specs.Trees.{expressions_of}
 use Rattle.nf_core.specs.Written.{keys_read}
-use Rattle.nf_core.proofs.Collected.{given_at}
+use Rattle.nf_core.proofs.CollectedKeyLemmas.{given_at}
 use Rattle.nf_core.proofs.key_places.add_atom.Goals as goal
 
 pub returns : goal.returns

@@ -1,9 +1,8 @@
 use Rattle.std.proofs.Common.{Contains}
 use Rattle.std.proofs.lemmas.List.Elements.{All-head}
 use Rattle.std.proofs.lemmas.Result.{on_ok_weaker}
-use Rattle.nf_core.specs.Collected.{keys_read_by}
-use Rattle.nf_core.specs.Written.{keys_mapped_in}
-use Rattle.nf_core.proofs.Collected.{given_then}
+use Rattle.nf_core.specs.Written.{keys_read_by, keys_mapped_in}
+use Rattle.nf_core.proofs.CollectedKeyLemmas.{given_then}
 use Rattle.nf_core.proofs.key_places.add_keys.Goals as goal
 
 -- src/key_places.rt:77:5

@@ -1,10 +1,10 @@
 use Rattle.std.proofs.Common.{map, slice_set, Contains, sym, subst}
 use Rattle.std.proofs.lemmas.Result.{on_ok_weaker}
 use Rattle.nf_core.specs.Trees.{Rule}
-use Rattle.nf_core.specs.Collected.{AreGiven}
+use Rattle.nf_core.specs.inner.Collected.{AreGiven}
 use Rattle.nf_core.specs.Written.{keys_mapped_in}
 use Rattle.nf_core.specs.declared.trees.Entry.{Entry}
-use Rattle.nf_core.proofs.Collected.{given_at}
+use Rattle.nf_core.proofs.CollectedKeyLemmas.{given_at}
 use Rattle.nf_core.proofs.key_places.add_mapped_keys.Goals as goal
 
 pub returns : goal.returns

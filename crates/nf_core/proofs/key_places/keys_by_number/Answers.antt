@@ -4,9 +4,9 @@ use Rattle.std.proofs.lemmas.Grind.{common_steps}
 use Rattle.std.proofs.lemmas.List.Elements.{All-from_recursion}
 use Rattle.nf_core.specs.Texts.{text_eq}
 use Rattle.nf_core.specs.Written.{names_in}
-use Rattle.nf_core.proofs.Collected.{none_collected, collected_more}
-use Rattle.nf_core.proofs.EachOnce.{IsDistinct-each_once}
-use Rattle.nf_core.proofs.Loops.{known_item}
+use Rattle.nf_core.proofs.CollectedKeyLemmas.{none_collected, collected_more}
+use Rattle.nf_core.proofs.Public.EachOnceLemmas.{IsDistinct-each_once}
+use Rattle.nf_core.proofs.NumberingLemmas.{known_item}
 use Rattle.nf_core.proofs.key_places.keys_by_number.Goals as goal
 
 -- src/key_places.rt:35:5

@@ -1,14 +1,12 @@
 use Rattle.std.proofs.Common.{◌≡◌, List, ◌∷◌, ℕ, map, All, Contains, sym, subst}
-use Rattle.std.specs.List.{AllByRecursion, IsDistinct}
+use Rattle.std.specs.List.{AllByRecursion}
 use Rattle.std.proofs.lemmas.List.Elements.{All-head, All-tail, recursion_from_All}
-use Rattle.nf_core.specs.Kinds.{labels_of}
-use Rattle.nf_core.specs.Numbered.{HasFewKeys, members_seen}
-use Rattle.nf_core.specs.Texts.{text_eq}
+use Rattle.nf_core.specs.inner.Numbered.{HasFewKeys, members_seen}
 use Rattle.nf_core.specs.Trees.{Rule, atoms_of}
 use Rattle.nf_core.specs.Written.{names_in, plan_rule}
 use Rattle.nf_core.specs.declared.trees.Atom.{Atom}
 use Rattle.nf_core.specs.declared.terms.PlanRule.{PlanRule}
-use Rattle.nf_core.proofs.Numbered.{few_members, parts-plan_rule}
+use Rattle.nf_core.proofs.NumberedTermLemmas.{few_members, parts-plan_rule}
 use Rattle.nf_core.proofs.numbered_rules.numbered_rule.Goals as goal
 
 known_head : (names : List (List ℕ)) (rule is : Rule) → is ≡ rule → All (Contains names) (names_in rule) → Contains names is.head
@@ -59,8 +57,7 @@ returns-clause-rule c = λ rules named keyed.
     } in
     let known : AllByRecursion (Contains c.args.names.now) (c.rule.inside.head ∷ map (λ (atom : Atom). atom.name) (atoms_of c.rule.inside.body)) =
     subst (λ (rule : Rule). AllByRecursion (Contains c.args.names.now) (names_in rule)) (sym c.rule.view_is) (recursion_from_All (Contains c.args.names.now) (names_in c.args.rule.now) c.requires.known) in
-    let distinct : IsDistinct text_eq (labels_of c.rule.inside.body) = subst (λ (rule : Rule). IsDistinct text_eq (labels_of rule.body)) (sym c.rule.view_is) c.requires.labels in
     subst (λ (rule : Rule). made ≡ plan_rule rules rule) c.rule.view_is
     (parts-plan_rule rules c.args.names.now c.args.keys.now named keyed (record { head = c.rule.inside.head; body = c.rule.inside.body; filter = c.rule.inside.filter; entries = c.rule.inside.entries; start = c.rule.inside.start; stop = c.rule.inside.stop })
-    (members_seen c.members_of-members.result) c.number_of-head.result c.len.result c.first_number.result c.index-keys-head.result c.numbered_link.result made.filter made.start made.stop made.entries known distinct c.number_of-head.ensures.number c.index-keys-head.is c.len.ensures
+    (members_seen c.members_of-members.result) c.number_of-head.result c.len.result c.first_number.result c.index-keys-head.result c.numbered_link.result made.filter made.start made.stop made.entries known c.number_of-head.ensures.number c.index-keys-head.is c.len.ensures
     (c.first_number.ensures rules (sym named)) (c.numbered_link.ensures rules (sym named)) c.members_of-members.ensures c.in_ok-numbered_clause.ensures c.in_ok-numbered_map.ensures c.in_ok-numbered_clause-2.ensures c.in_ok-numbered_clause-3.ensures)

@@ -3,7 +3,7 @@ use Rattle.std.proofs.lemmas.List.{take_all}
 use Rattle.std.proofs.lemmas.List.Elements.{All-from_recursion}
 use Rattle.nf_core.specs.Trees.{IsRule}
 use Rattle.nf_core.specs.Written.{names_in, plan_rule}
-use Rattle.nf_core.proofs.Loops.{known_item, mapped_more, all_more}
+use Rattle.nf_core.proofs.NumberingLemmas.{known_item, mapped_more, all_more}
 use Rattle.nf_core.proofs.numbered_rules.rules_by_number.Goals as goal
 
 -- src/numbered_rules.rt:41:19

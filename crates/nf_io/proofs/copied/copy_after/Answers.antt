@@ -1,6 +1,6 @@
 use Rattle.std.proofs.Common.{arith}
 use Rattle.std.proofs.lemmas.List.{length-take-le}
-use Rattle.nf_io.proofs.Pieces.{take-append_copied}
+use Rattle.nf_io.proofs.PieceLemmas.{take-append_copied}
 use Rattle.nf_io.proofs.copied.copy_after.Goals as goal
 
 pub returns-clause-bytes : goal.returns-clause-bytes

@@ -1,6 +1,6 @@
 use Rattle.std.proofs.Common.{arith, rules}
-use Rattle.nf_io.proofs.Pieces.{Took-next, next_within}
-use Rattle.nf_io.specs.Bytes.{TookPart-take}
+use Rattle.nf_io.proofs.PieceLemmas.{Took-next, next_within}
+use Rattle.nf_io.proofs.Public.{TookPart-take}
 use Rattle.nf_io.proofs.sinks.write_all.Goals as goal
 
 pub pieces-preserved : goal.pieces-preserved
@@ -14,5 +14,5 @@ pieces-preserved g c =
 
 pub returns-in_err-from-clause-err : goal.returns-in_err-from-clause-err
 returns-in_err-from-clause-err g c =
-    let part = TookPart-take (g.O.Sink.taken c.args.out.now) (g.O.Sink.taken c.pieces.out) c.pieces.from c.args.bytes.now c.pieces-test.true c.pieces.invariant.took in
+    let part = TookPart-take (g.O.Sink.tells c.args.out.now).taken (g.O.Sink.tells c.pieces.out).taken c.pieces.from c.args.bytes.now c.pieces-test.true c.pieces.invariant.took in
     search (rules, part)

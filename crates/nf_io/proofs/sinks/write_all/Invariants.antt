@@ -5,8 +5,8 @@ use Rattle.nf_io.proofs.sinks.write_all.Given as goal
 abbrev pub invariant-pieces : goal.invariant-pieces
 invariant-pieces g l = record {
   within : l.from ≤ length l.bytes;
-  took : Took (g.O.Sink.taken l.initial.out) (g.O.Sink.taken l.out) (take l.from l.bytes);
-  later : g.O.Sink.faults l.initial.out ≤ g.O.Sink.faults l.out;
+  took : Took (g.O.Sink.tells l.initial.out).taken (g.O.Sink.tells l.out).taken (take l.from l.bytes);
+  later : (g.O.Sink.tells l.initial.out).faults ≤ (g.O.Sink.tells l.out).faults;
 }
 
 abbrev pub decreases-pieces : goal.decreases-pieces

@@ -1,6 +1,6 @@
 use Rattle.std.proofs.Common.{arith, sym, ◌∙◌, ◌≡◌, false, subst}
 use Rattle.std.proofs.lemmas.List.{take_rest}
-use Rattle.nf_lex.proofs.Closes.{closes, close_more}
+use Rattle.nf_lex.proofs.CommentLemmas.{closes, close_more}
 use Rattle.nf_lex.proofs.comments.before_close.Goals as goal
 
 pub loop-place-preserved : goal.loop-place-preserved

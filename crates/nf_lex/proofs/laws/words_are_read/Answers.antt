@@ -1,4 +1,4 @@
-use Rattle.nf_lex.proofs.Printed.{name_read, number_read, text_read, long_read, short_read, blank_read}
+use Rattle.nf_lex.proofs.PrintedWordLemmas.{name_read, number_read, text_read, long_read, short_read, blank_read}
 use Rattle.nf_lex.proofs.laws.words_are_read.Goals as goal
 
 pub returns-clause-name : goal.returns-clause-name

@@ -1,8 +1,8 @@
 use Rattle.std.proofs.Common.{arith, inl, inr, ap, Ok, Err, ◌∙◌}
 use Rattle.std.proofs.lemmas.Result.{err_from_is_err_and}
-use Rattle.nf_lex.proofs.Reading.{so_far_gap, so_far_token, so_far_end, so_far_fault}
-use Rattle.nf_lex.proofs.OneAnswer.{one_answer}
-use Rattle.nf_lex.proofs.Laying.{laid_out, each_token}
+use Rattle.nf_lex.proofs.ReaderLemmas.{so_far_gap, so_far_token, so_far_end, so_far_fault}
+use Rattle.nf_lex.proofs.UniquenessLemmas.{one_answer}
+use Rattle.nf_lex.proofs.LayoutLemmas.{laid_out, each_token}
 use Rattle.nf_lex.specs.Layout.{none}
 use Rattle.nf_lex.proofs.reader.tokens.Goals as goal
 

@@ -1,5 +1,5 @@
 use Rattle.std.proofs.Common.{◌-◌, length}
-use Rattle.nf_lex.proofs.Reading.{IsSoFar}
+use Rattle.nf_lex.proofs.ReaderLemmas.{IsSoFar}
 use Rattle.nf_lex.proofs.reader.tokens.Given as goal
 
 abbrev pub invariant-words : goal.invariant-words

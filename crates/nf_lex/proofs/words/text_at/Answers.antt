@@ -1,4 +1,4 @@
-use Rattle.nf_lex.proofs.Longest.{text_after}
+use Rattle.nf_lex.proofs.LongestTokenLemmas.{text_after}
 use Rattle.nf_lex.proofs.words.text_at.Goals as goal
 
 pub returns-then-body-rest : goal.returns-then-body-rest

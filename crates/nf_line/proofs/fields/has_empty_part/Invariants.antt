@@ -1,7 +1,7 @@
 use Rattle.std.proofs.Common.{◌≡◌}
 use Rattle.std.specs.List.{list_any}
 use Rattle.nf_text.specs.Fields.{fields_of}
-use Rattle.nf_line.specs.Line.{is_empty}
+use Rattle.nf_line.specs.Lines.{is_empty}
 use Rattle.nf_line.proofs.fields.has_empty_part.Given as goal
 
 abbrev pub invariant-loop-part : goal.invariant-loop-part

@@ -1,4 +1,4 @@
-use Rattle.nf_line.proofs.CutLines.{next_call, next_content, whole_run, lines_of_cut}
+use Rattle.nf_line.proofs.CutLineLemmas.{next_call, next_content, whole_run, lines_of_cut}
 use Rattle.nf_line.proofs.laws.lines_are_those_of_the_cut.Goals as goal
 
 pub returns-clause-step : goal.returns-clause-step

@@ -1,4 +1,4 @@
-use Rattle.nf_line.proofs.CutLines.{meaning_within, meaning_beyond, meanings_so_far, meanings_broken_off}
+use Rattle.nf_line.proofs.CutLineLemmas.{meaning_within, meaning_beyond, meanings_so_far, meanings_broken_off}
 use Rattle.nf_line.proofs.laws.lines_mean_their_pieces.Goals as goal
 
 pub returns-clause-within : goal.returns-clause-within

@@ -1,4 +1,4 @@
-use Rattle.nf_line.proofs.EndedLines.{whole, broken_off}
+use Rattle.nf_line.proofs.EndedLineLemmas.{whole, broken_off}
 use Rattle.nf_line.proofs.laws.lines_that_ended_stay.Goals as goal
 
 pub returns-clause-whole : goal.returns-clause-whole

@@ -1,4 +1,4 @@
-use Rattle.nf_line.proofs.CutLines.{long_piece, long_piece_broken_off, long_meaning}
+use Rattle.nf_line.proofs.CutLineLemmas.{long_piece, long_piece_broken_off, long_meaning}
 use Rattle.nf_line.proofs.laws.long_lines_are_long_pieces.Goals as goal
 
 pub returns-clause-whole : goal.returns-clause-whole

@@ -1,4 +1,4 @@
-use Rattle.nf_line.proofs.KnownTrace.{refused_stays, events_stay, events_at_limit, unrefused_before, never_too_long}
+use Rattle.nf_line.proofs.TraceLemmas.{refused_stays, events_stay, events_at_limit, unrefused_before, never_too_long}
 use Rattle.nf_line.proofs.laws.what_is_known_of_a_trace_stays.Goals as goal
 
 pub returns-clause-refused : goal.returns-clause-refused

@@ -1,5 +1,5 @@
 use Rattle.std.proofs.Common.{sym, ◌∙◌, eqb}
-use Rattle.nf_line.proofs.Feeds.{any_found, none_found}
+use Rattle.nf_line.proofs.LineFeedLemmas.{any_found, none_found}
 use Rattle.nf_line.proofs.pieces.cut_piece.Goals as goal
 
 pub returns-in-Some-clause-has_feed : goal.returns-in-Some-clause-has_feed

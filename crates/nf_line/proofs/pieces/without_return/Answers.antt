@@ -1,5 +1,5 @@
 use Rattle.std.proofs.Common.{sym, ◌∙◌}
-use Rattle.nf_line.proofs.Returns.{return_dropped, no_return}
+use Rattle.nf_line.proofs.CarriageReturnLemmas.{return_dropped, no_return}
 use Rattle.nf_line.proofs.pieces.without_return.Goals as goal
 
 pub returns-in-Some : goal.returns-in-Some

@@ -1,4 +1,4 @@
-use Rattle.nf_line.proofs.PlainEvents.{AreSpelled, plain_events, number_events, time_events}
+use Rattle.nf_line.proofs.EventLemmas.{AreSpelled, trace_right}
 use Rattle.nf_line.proofs.row_laws.events_have_plain_values.Goals as goal
 
 pub returns : goal.returns
@@ -9,4 +9,4 @@ returns c =
       within = c.printed_numbers_are_read.ensures.within;
       given = c.spellings_are_apart.ensures.words;
     } in
-    record { plain = plain_events known; numbers = number_events known; times = time_events known }
+    trace_right known

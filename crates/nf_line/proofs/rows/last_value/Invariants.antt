@@ -1,6 +1,6 @@
 use Rattle.std.proofs.Common.{◌≡◌, None}
 use Rattle.std.specs.Option.{option_copied}
-use Rattle.nf_line.proofs.LastPairs.{last_from}
+use Rattle.nf_line.proofs.LastPairLemmas.{last_from}
 use Rattle.nf_line.proofs.rows.last_value.Given as goal
 
 abbrev pub invariant-loop-written : goal.invariant-loop-written

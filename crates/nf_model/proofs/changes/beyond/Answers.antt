@@ -4,7 +4,7 @@ use Rattle.std.specs.List.{range_with_len}
 use Rattle.nf_core.specs.Plan.{is_head}
 use Rattle.nf_model.specs.Changes.{named, lacking}
 use Rattle.nf_model.specs.Pools.{of_name}
-use Rattle.nf_model.proofs.Lists.{numbers_more, filtered_more}
+use Rattle.nf_model.proofs.ListLemmas.{numbers_more, filtered_more}
 use Rattle.nf_model.proofs.changes.beyond.Goals as goal
 
 pub loop-name-preserved : goal.loop-name-preserved

@@ -1,5 +1,5 @@
 use Rattle.std.proofs.Common.{rules}
-use Rattle.nf_model.proofs.Levels.{settled}
+use Rattle.nf_model.proofs.EvaluationLemmas.{settled}
 use Rattle.nf_model.proofs.evaluation.fill_level.Goals as goal
 
 pub loop-name-preserved : goal.loop-name-preserved

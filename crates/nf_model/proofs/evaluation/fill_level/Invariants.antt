@@ -1,4 +1,4 @@
-use Rattle.nf_model.specs.Known.{AreKnownUpTo}
+use Rattle.nf_model.specs.inner.Known.{AreKnownUpTo}
 use Rattle.nf_model.proofs.evaluation.fill_level.Given as goal
 
 -- the names so far are known

@@ -1,4 +1,4 @@
-use Rattle.nf_model.specs.Known.{AreKnown}
+use Rattle.nf_model.specs.inner.Known.{AreKnown}
 use Rattle.nf_model.proofs.evaluation.pools_of.Given as goal
 
 -- the names below the level are known

@@ -1,7 +1,7 @@
 use Rattle.std.proofs.Common.{Some, option_to_list, arith}
 use Rattle.std.proofs.lemmas.Grind.{common_steps}
 use Rattle.nf_model.specs.Members.{HavePlaces}
-use Rattle.nf_model.proofs.Lists.{All-rest}
+use Rattle.nf_model.proofs.ListLemmas.{All-rest}
 use Rattle.nf_model.proofs.exclusive.is_blocked.Goals as goal
 
 pub loop-second-preserved : goal.loop-second-preserved

@@ -1,7 +1,7 @@
 use Rattle.std.proofs.Common.{Some, None, All, option_to_list, arith}
 use Rattle.std.proofs.lemmas.Grind.{common_steps}
 use Rattle.nf_model.specs.Members.{HavePlaces, result_terms}
-use Rattle.nf_model.proofs.Lists.{All-rest}
+use Rattle.nf_model.proofs.ListLemmas.{All-rest}
 use Rattle.nf_model.proofs.exclusive.push_unblocked.Goals as goal
 
 pub loop-first-preserved : goal.loop-first-preserved

@@ -2,8 +2,8 @@ use Rattle.std.proofs.Common.{ℕ, ◌+◌, [], ◌∷◌, ◌++◌, Option, ap,
 use Rattle.std.specs.Option.{option_copied}
 use Rattle.nf_core.specs.declared.values.Value.{Value}
 use Rattle.nf_model.specs.Results.{cell_of}
-use Rattle.nf_model.proofs.Lists.{made_more}
-use Rattle.nf_model.proofs.Entries.{none_below, mapped_more, mapped_few}
+use Rattle.nf_model.proofs.ListLemmas.{made_more}
+use Rattle.nf_model.proofs.EntryLemmas.{none_below, mapped_more, mapped_few}
 use Rattle.nf_model.proofs.maps.mapped_row.Goals as goal
 
 pub loop-place-init : goal.loop-place-init

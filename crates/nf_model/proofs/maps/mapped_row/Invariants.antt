@@ -2,7 +2,7 @@ use Rattle.std.proofs.Common.{◌≡◌, ◌+◌, map}
 use Rattle.std.specs.List.{range_with_len}
 use Rattle.std.specs.Option.{option_copied}
 use Rattle.nf_model.specs.Results.{cell_of}
-use Rattle.nf_model.proofs.Entries.{mapped}
+use Rattle.nf_model.proofs.EntryLemmas.{mapped}
 use Rattle.nf_model.proofs.maps.mapped_row.Given as goal
 
 -- the cells so far, and the entries that were evaluated for them

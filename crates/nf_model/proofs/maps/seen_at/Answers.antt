@@ -1,6 +1,6 @@
 use Rattle.std.specs.Option.{option_copied}
 use Rattle.nf_model.specs.Members.{IsEntryOver}
-use Rattle.nf_model.proofs.Entries.{found_entry}
+use Rattle.nf_model.proofs.EntryLemmas.{found_entry}
 use Rattle.nf_model.proofs.maps.seen_at.Goals as goal
 
 pub eval-requires : goal.eval-requires

@@ -1,7 +1,7 @@
 use Rattle.std.proofs.Common.{Some, arith}
 use Rattle.std.proofs.lemmas.Grind.{common_steps}
 use Rattle.nf_model.specs.Members.{HavePlaces, clause_terms}
-use Rattle.nf_model.proofs.Lists.{All-rest}
+use Rattle.nf_model.proofs.ListLemmas.{All-rest}
 use Rattle.nf_model.proofs.results.push_pairs_of.Goals as goal
 
 pub loop-second-preserved : goal.loop-second-preserved

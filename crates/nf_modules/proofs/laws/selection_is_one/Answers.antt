@@ -1,4 +1,4 @@
-use Rattle.nf_modules.proofs.OneAnswer.{one_answer, some_answer}
+use Rattle.nf_modules.proofs.UniquenessLemmas.{one_answer, some_answer}
 use Rattle.nf_modules.proofs.laws.selection_is_one.Goals as goal
 
 pub returns-clause-some : goal.returns-clause-some

@@ -1,6 +1,6 @@
 use Rattle.std.proofs.Common.{◌≡◌, ℕ, List, Some, is_some, true, false, rules, cond, bytes_eq, ap, subst, ◌∙◌, inr}
 use Rattle.std.proofs.lemmas.Map.Text.{hash_map_updates_str}
-use Rattle.nf_modules.specs.Places.{number_in}
+use Rattle.nf_modules.specs.inner.Places.{number_in}
 use Rattle.nf_modules.specs.declared.fault.ModuleFault.TheVariants as fault
 use Rattle.nf_modules.proofs.places.add_name.Goals as goal
 

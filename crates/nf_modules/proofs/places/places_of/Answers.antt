@@ -1,6 +1,6 @@
 use Rattle.std.proofs.Common.{arith}
-use Rattle.nf_modules.specs.Places.{number_in}
-use Rattle.nf_modules.proofs.Numbers.{failed, refused_of_all}
+use Rattle.nf_modules.specs.inner.Places.{number_in}
+use Rattle.nf_modules.proofs.ModulePlaceLemmas.{failed, refused_of_all}
 use Rattle.nf_modules.proofs.places.places_of.Goals as goal
 
 pub returns-in_err-add_module-clause-err : goal.returns-in_err-add_module-clause-err

@@ -1,5 +1,5 @@
 use Rattle.std.proofs.Common.{take}
-use Rattle.nf_modules.specs.Places.{ArePlaces, number_in}
+use Rattle.nf_modules.specs.inner.Places.{ArePlaces, number_in}
 use Rattle.nf_modules.proofs.places.places_of.Given as goal
 
 -- the places of the modules so far

@@ -1,8 +1,8 @@
 use Rattle.std.proofs.Common.{◌+◌, None, Some, arith, refl, sym}
 use Rattle.std.proofs.lemmas.Option.{slice_get_read}
 use Rattle.nf_core.specs.declared.trees.Module.{Module}
-use Rattle.nf_modules.specs.Places.{number_in, has_no_number}
-use Rattle.nf_modules.proofs.Readings.{turn, found_before}
+use Rattle.nf_modules.specs.inner.Places.{number_in, has_no_number}
+use Rattle.nf_modules.proofs.ReadingLemmas.{turn, found_before}
 use Rattle.nf_modules.proofs.reached.missing_import.Goals as goal
 
 pub returns-in-Some : goal.returns-in-Some

@@ -2,7 +2,7 @@ use Rattle.std.proofs.Common.{◌++◌, List, get_or, arith, sym, ap, ◌∙◌,
 use Rattle.std.proofs.lemmas.Option.{slice_get_read}
 use Rattle.nf_core.specs.Trees.{Rule}
 use Rattle.nf_core.specs.declared.trees.Module.{Module}
-use Rattle.nf_modules.proofs.Readings.{read_more}
+use Rattle.nf_modules.proofs.ReadingLemmas.{read_more}
 use Rattle.nf_modules.proofs.reached.rules_of.Goals as goal
 
 pub loop-place-preserved : goal.loop-place-preserved

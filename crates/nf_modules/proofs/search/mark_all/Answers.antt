@@ -1,7 +1,7 @@
 use Rattle.std.proofs.Common.{◌≡◌, ℕ, List, Some, arith, subst}
-use Rattle.nf_modules.specs.Places.{number_in}
-use Rattle.nf_modules.specs.Search.{Marks}
-use Rattle.nf_modules.proofs.Marking.{marks_more}
+use Rattle.nf_modules.specs.inner.Places.{number_in}
+use Rattle.nf_modules.specs.inner.Search.{Marks}
+use Rattle.nf_modules.proofs.MarkLemmas.{marks_more}
 use Rattle.nf_modules.proofs.search.mark_all.Goals as goal
 
 pub loop-name-preserved : goal.loop-name-preserved

@@ -1,6 +1,6 @@
 use Rattle.std.proofs.Common.{take}
-use Rattle.nf_modules.specs.Places.{number_in}
-use Rattle.nf_modules.specs.Search.{Marks, IsPlaceOf}
+use Rattle.nf_modules.specs.inner.Places.{number_in}
+use Rattle.nf_modules.specs.inner.Search.{Marks, IsPlaceOf}
 use Rattle.nf_modules.proofs.search.mark_all.Given as goal
 
 -- the places of the names so far are marked

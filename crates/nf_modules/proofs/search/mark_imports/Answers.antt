@@ -1,8 +1,8 @@
 use Rattle.std.proofs.Common.{List, ℕ, get_or, subst, OnOk}
 use Rattle.std.proofs.lemmas.Option.{slice_get-get_or}
-use Rattle.nf_modules.specs.Places.{number_in}
-use Rattle.nf_modules.specs.Search.{Marks, IsPlaceOf}
-use Rattle.nf_modules.proofs.Marking.{marks_of_module}
+use Rattle.nf_modules.specs.inner.Places.{number_in}
+use Rattle.nf_modules.specs.inner.Search.{Marks, IsPlaceOf}
+use Rattle.nf_modules.proofs.MarkLemmas.{marks_of_module}
 use Rattle.nf_modules.proofs.search.mark_imports.Goals as goal
 
 pub returns : goal.returns

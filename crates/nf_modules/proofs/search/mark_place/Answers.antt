@@ -1,5 +1,5 @@
 use Rattle.std.proofs.Common.{◌≡◌, ◌<◌, rules, length, get_or, false, refl}
-use Rattle.nf_modules.proofs.Marking.{marks_place}
+use Rattle.nf_modules.proofs.MarkLemmas.{marks_place}
 use Rattle.nf_modules.proofs.search.mark_place.Goals as goal
 
 pub returns-in_ok-push : goal.returns-in_ok-push

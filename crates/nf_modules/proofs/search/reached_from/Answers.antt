@@ -1,8 +1,8 @@
 use Rattle.std.proofs.Common.{◌≡◌, length, arith, refl}
-use Rattle.nf_modules.specs.Places.{number_in}
+use Rattle.nf_modules.specs.inner.Places.{number_in}
 use Rattle.nf_modules.specs.declared.search.Search.{Search}
-use Rattle.nf_modules.proofs.Lists.{empty_list}
-use Rattle.nf_modules.proofs.Walks.{open_within, numbers_within, long_replicate, none_marked, searched_start, searched_more, searched_all}
+use Rattle.nf_modules.proofs.ListLemmas.{empty_list}
+use Rattle.nf_modules.proofs.WalkLemmas.{open_within, numbers_within, long_replicate, none_marked, searched_start, searched_more, searched_all}
 use Rattle.nf_modules.proofs.search.reached_from.Goals as goal
 
 pub open-init : goal.open-init

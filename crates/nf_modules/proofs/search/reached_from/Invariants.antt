@@ -1,6 +1,6 @@
-use Rattle.nf_modules.specs.Places.{number_in}
-use Rattle.nf_modules.specs.Search.{left_in}
-use Rattle.nf_modules.proofs.Walks.{IsSearched}
+use Rattle.nf_modules.specs.inner.Places.{number_in}
+use Rattle.nf_modules.specs.inner.Search.{left_in}
+use Rattle.nf_modules.proofs.WalkLemmas.{IsSearched}
 use Rattle.nf_modules.proofs.search.reached_from.Given as goal
 
 abbrev pub invariant-open : goal.invariant-open

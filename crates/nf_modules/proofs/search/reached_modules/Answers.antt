@@ -1,7 +1,7 @@
 use Rattle.std.proofs.Common.{IfOk, sym, subst}
 use Rattle.std.specs.Option.{option_copied}
 use Rattle.nf_modules.specs.Selection.{AreReached}
-use Rattle.nf_modules.proofs.Walks.{reached_all}
+use Rattle.nf_modules.proofs.WalkLemmas.{reached_all}
 use Rattle.nf_modules.proofs.search.reached_modules.Goals as goal
 
 pub returns-in_ok-vec-in-None : goal.returns-in_ok-vec-in-None

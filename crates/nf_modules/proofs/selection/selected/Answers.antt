@@ -1,9 +1,9 @@
 use Rattle.std.proofs.Common.{Err, inr, sym, subst}
 use Rattle.std.specs.Option.{option_copied}
 use Rattle.nf_modules.specs.Selection.{Selects}
-use Rattle.nf_modules.specs.Places.{number_in}
+use Rattle.nf_modules.specs.inner.Places.{number_in}
 use Rattle.nf_modules.specs.declared.fault.ModuleFault.TheVariants as fault
-use Rattle.nf_modules.proofs.Answering.{as_reached, reached_long, handed_on, missing_root, missing_import, no_fault}
+use Rattle.nf_modules.proofs.AnswerLemmas.{as_reached, reached_long, handed_on, missing_root, missing_import, no_fault}
 use Rattle.nf_modules.proofs.selection.selected.Goals as goal
 
 pub returns-in_err-places : goal.returns-in_err-places

@@ -1,8 +1,8 @@
 use Rattle.std.proofs.Common.{◌≡◌, ℕ, List, [], ◌∷◌, refl, length, Contains, get_or, false, true≢false, sym, subst, ◌∙◌, arith}
 use Rattle.std.proofs.lemmas.List.{get_or_default}
 use Rattle.std.proofs.lemmas.List.Elements.{Contains-push}
-use Rattle.nf_order.specs.Reach.{IsReach, IsFlagged}
-use Rattle.nf_order.proofs.Reach.{reach_on, seen_on_cycle, cycle_is_seen}
+use Rattle.nf_order.specs.inner.Reach.{IsReach, IsFlagged}
+use Rattle.nf_order.proofs.ReachLemmas.{reach_on, seen_on_cycle, cycle_is_seen}
 use Rattle.nf_order.proofs.cycles.is_on_cycle.Goals as goal
 
 pub below-requires : goal.below-requires

@@ -1,4 +1,4 @@
-use Rattle.nf_order.specs.Reach.{IsReach, to_see}
+use Rattle.nf_order.specs.inner.Reach.{IsReach, to_see}
 use Rattle.nf_order.proofs.cycles.is_on_cycle.Given as goal
 
 -- the state of the search

@@ -1,5 +1,5 @@
 use Rattle.std.proofs.Common.{arith}
-use Rattle.nf_order.proofs.Reach.{seen_more}
+use Rattle.nf_order.proofs.ReachLemmas.{seen_more}
 use Rattle.nf_order.proofs.cycles.see_all.Goals as goal
 
 pub loop-number-preserved : goal.loop-number-preserved

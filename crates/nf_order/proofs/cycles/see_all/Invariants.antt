@@ -1,5 +1,5 @@
 use Rattle.std.proofs.Common.{take}
-use Rattle.nf_order.specs.Reach.{AreSeen}
+use Rattle.nf_order.specs.inner.Reach.{AreSeen}
 use Rattle.nf_order.proofs.cycles.see_all.Given as goal
 
 -- the numbers so far are seen

@@ -1,5 +1,5 @@
 use Rattle.std.proofs.Common.{◌≡◌, take, map}
-use Rattle.nf_order.specs.Graph.{numbers_below}
+use Rattle.nf_order.specs.inner.Graph.{numbers_below}
 use Rattle.nf_order.proofs.graph.numbers_by_name.Given as goal
 
 -- the numbers below each name in the rules so far

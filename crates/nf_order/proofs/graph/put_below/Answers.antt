@@ -1,5 +1,5 @@
 use Rattle.std.proofs.Common.{arith}
-use Rattle.nf_order.proofs.Turned.{put_more}
+use Rattle.nf_order.proofs.ReversedGraphLemmas.{put_more}
 use Rattle.nf_order.proofs.graph.put_below.Goals as goal
 
 pub loop-other-preserved : goal.loop-other-preserved

@@ -1,5 +1,5 @@
 use Rattle.std.proofs.Common.{take}
-use Rattle.nf_order.specs.Graph.{ArePut}
+use Rattle.nf_order.specs.inner.Graph.{ArePut}
 use Rattle.nf_order.proofs.graph.put_below.Given as goal
 
 -- the number stands below the others so far

@@ -1,6 +1,6 @@
 use Rattle.std.proofs.Common.{length, ◌∙◌, arith}
-use Rattle.nf_order.proofs.OnCycle.{above_within}
-use Rattle.nf_order.proofs.Turned.{turn_more}
+use Rattle.nf_order.proofs.CycleLemmas.{above_within}
+use Rattle.nf_order.proofs.ReversedGraphLemmas.{turn_more}
 use Rattle.nf_order.proofs.graph.turned.Goals as goal
 
 pub loop-number-preserved : goal.loop-number-preserved

@@ -1,5 +1,5 @@
 use Rattle.std.proofs.Common.{◌≡◌, ℕ, ◌<◌, length, All}
-use Rattle.nf_order.specs.Graph.{IsAbove}
+use Rattle.nf_order.specs.inner.Graph.{IsAbove}
 use Rattle.nf_order.proofs.graph.turned.Given as goal
 
 -- the steps from the numbers so far are turned around

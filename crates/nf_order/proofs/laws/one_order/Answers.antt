@@ -1,6 +1,6 @@
-use Rattle.nf_order.proofs.Acyclic.{levels_or_cycle}
-use Rattle.nf_order.proofs.SameLevels.{same_levels}
-use Rattle.nf_order.proofs.Walks.{levels_agree, IsAcyclic-leveled, no_first_cycle, one_first_cycle}
+use Rattle.nf_order.proofs.AcyclicLemmas.{levels_or_cycle}
+use Rattle.nf_order.proofs.LevelListLemmas.{same_levels}
+use Rattle.nf_order.proofs.WalkLemmas.{levels_agree, IsAcyclic-leveled, no_first_cycle, one_first_cycle}
 use Rattle.nf_order.proofs.laws.one_order.Goals as goal
 
 pub returns : goal.returns

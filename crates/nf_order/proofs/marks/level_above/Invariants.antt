@@ -1,5 +1,5 @@
 use Rattle.std.proofs.Common.{◌≡◌, take}
-use Rattle.nf_order.specs.Marks.{level_over}
+use Rattle.nf_order.specs.inner.Marks.{level_over}
 use Rattle.nf_order.proofs.marks.level_above.Given as goal
 
 -- the level over the numbers so far

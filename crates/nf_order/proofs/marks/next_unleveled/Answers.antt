@@ -1,6 +1,6 @@
 use Rattle.std.proofs.Common.{sym, arith}
 use Rattle.std.proofs.lemmas.List.Elements.{All-more}
-use Rattle.nf_order.specs.Marks.{HasLevel}
+use Rattle.nf_order.specs.inner.Marks.{HasLevel}
 use Rattle.nf_order.proofs.marks.next_unleveled.Goals as goal
 
 pub loop-place-preserved : goal.loop-place-preserved

@@ -1,5 +1,5 @@
 use Rattle.std.proofs.Common.{◌≤◌, ◌-◌, length, take, All}
-use Rattle.nf_order.specs.Marks.{HasLevel}
+use Rattle.nf_order.specs.inner.Marks.{HasLevel}
 use Rattle.nf_order.proofs.marks.next_unleveled.Given as goal
 
 -- the names so far have their levels

@@ -1,7 +1,7 @@
 use Rattle.std.proofs.Common.{◌⊎◌, ℕ, sym, subst, arith}
 use Rattle.std.proofs.lemmas.List.{length-append}
-use Rattle.nf_order.specs.Marks.{HasLevel}
-use Rattle.nf_order.proofs.OnCycle.{flag_push}
+use Rattle.nf_order.specs.inner.Marks.{HasLevel}
+use Rattle.nf_order.proofs.CycleLemmas.{flag_push}
 use Rattle.nf_order.proofs.order.leveled_in_either.Goals as goal
 
 pub loop-number-preserved : goal.loop-number-preserved

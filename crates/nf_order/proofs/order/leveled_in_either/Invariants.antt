@@ -1,6 +1,6 @@
 use Rattle.std.proofs.Common.{◌≡◌, ◌⊎◌, ℕ, length}
-use Rattle.nf_order.specs.Marks.{HasLevel}
-use Rattle.nf_order.specs.Reach.{IsFlagged}
+use Rattle.nf_order.specs.inner.Marks.{HasLevel}
+use Rattle.nf_order.specs.inner.Reach.{IsFlagged}
 use Rattle.nf_order.proofs.order.leveled_in_either.Given as goal
 
 -- the flags so far

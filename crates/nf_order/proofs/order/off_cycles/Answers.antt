@@ -1,4 +1,4 @@
-use Rattle.nf_order.proofs.OnCycle.{both_off}
+use Rattle.nf_order.proofs.CycleLemmas.{both_off}
 use Rattle.nf_order.proofs.order.off_cycles.Goals as goal
 
 pub returns-clause-off : goal.returns-clause-off

@@ -1,4 +1,4 @@
-use Rattle.nf_parse.proofs.Limits.{expression_limits}
+use Rattle.nf_parse.proofs.LimitLemmas.{expression_limits}
 use Rattle.nf_parse.proofs.clauses.whole.Goals as goal
 
 pub returns-clause-limits : goal.returns-clause-limits

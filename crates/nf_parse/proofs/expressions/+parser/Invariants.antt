@@ -1,7 +1,7 @@
 use Rattle.std.proofs.Common.{◌+◌, ◌*◌, length}
 use Rattle.nf_parse.specs.Grammar.{op_at}
-use Rattle.nf_parse.specs.Reading as spec
-use Rattle.nf_parse.proofs.Loops.{operand_rank, IsChainAt}
+use Rattle.nf_parse.specs.inner.Reading as spec
+use Rattle.nf_parse.proofs.OperandLoopLemmas.{operand_rank, IsChainAt}
 use Rattle.nf_parse.proofs.expressions.+parser.Given as goal
 
 abbrev pub decreases-chain : goal.decreases-chain

@@ -1,4 +1,5 @@
-use Rattle.nf_parse.proofs.Answered.{every_answer, alike}
+use Rattle.std.proofs.Common.{refl}
+use Rattle.nf_parse.proofs.AnswerLemmas.{every_answer, alike, not_memory, not_lexical_memory}
 use Rattle.nf_parse.proofs.laws.every_source_is_answered.Goals as goal
 
 pub returns-clause-some : goal.returns-clause-some
@@ -6,3 +7,9 @@ returns-clause-some c = λ source. let d = c.division_is_one.ensures.some source
 
 pub returns-clause-one : goal.returns-clause-one
 returns-clause-one c = λ source a b v w. alike c.division_is_one.ensures.one source a b v w
+
+pub returns-clause-known : goal.returns-clause-known
+returns-clause-known c = λ source v. not_memory source _ v refl
+
+pub returns-clause-lexical : goal.returns-clause-lexical
+returns-clause-lexical c = λ source v. not_lexical_memory source _ v refl

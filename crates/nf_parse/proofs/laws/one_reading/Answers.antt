@@ -1,4 +1,4 @@
-use Rattle.nf_parse.proofs.Answered.{spelled_once}
+use Rattle.nf_parse.proofs.AnswerLemmas.{spelled_once}
 use Rattle.nf_parse.proofs.laws.one_reading.Goals as goal
 
 pub returns : goal.returns

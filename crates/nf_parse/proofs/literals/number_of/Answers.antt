@@ -1,7 +1,7 @@
 use Rattle.std.proofs.Common.{subst}
 use Rattle.std.specs.Int.{w64}
 use Rattle.std.specs.Str.Parse.{ParsesSigned}
-use Rattle.nf_parse.proofs.Bytes.{number_shown}
+use Rattle.nf_parse.proofs.WordByteLemmas.{number_shown}
 use Rattle.nf_parse.proofs.literals.number_of.Goals as goal
 
 pub returns : goal.returns

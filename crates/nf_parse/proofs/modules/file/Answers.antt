@@ -1,10 +1,11 @@
 use Rattle.std.proofs.Common.{◌∙◌, sym, ap, arith}
 use Rattle.std.specs.Prelude.{is_some}
 use Rattle.std.proofs.lemmas.Result.{err_from_is_err_and}
-use Rattle.nf_parse.specs.RuleReading as spec
-use Rattle.nf_parse.proofs.RulesExact.{limited_shorter}
-use Rattle.nf_parse.proofs.PartLists.{stop_reads, within_more}
-use Rattle.nf_parse.proofs.FileLoop.{file_start, file_more, file_stops, file_ends}
+use Rattle.nf_parse.specs.inner.RuleReading as spec
+use Rattle.nf_parse.proofs.ExactRuleLemmas.{limited_shorter}
+use Rattle.nf_parse.proofs.PartListLemmas.{within_more}
+use Rattle.nf_parse.proofs.OutcomeLemmas.{stop_reads}
+use Rattle.nf_parse.proofs.FileLoopLemmas.{file_start, file_more, file_stops, file_ends}
 use Rattle.nf_parse.proofs.modules.file.Goals as goal
 
 pub modules-init : goal.modules-init

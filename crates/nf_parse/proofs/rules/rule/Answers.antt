@@ -1,4 +1,4 @@
-use Rattle.nf_parse.proofs.PartSteps.{rule_limits}
+use Rattle.nf_parse.proofs.PartStepLemmas.{rule_limits}
 use Rattle.nf_parse.proofs.rules.rule.Goals as goal
 
 pub invariant_of-result : goal.invariant_of-result

@@ -1,8 +1,8 @@
 use Rattle.std.proofs.Common.{◌≡◌, ◌<◌, ◌⊎◌, length}
-use Rattle.nf_parse.specs.Parsers.{IsWithin}
-use Rattle.nf_parse.specs.Parts as parts
-use Rattle.nf_parse.specs.RuleReading as spec
-use Rattle.nf_parse.proofs.PartLists.{IsListAt}
+use Rattle.nf_parse.specs.inner.Parsers.{IsWithin}
+use Rattle.nf_parse.specs.inner.Parts as parts
+use Rattle.nf_parse.specs.inner.RuleReading as spec
+use Rattle.nf_parse.proofs.PartListLemmas.{IsListAt}
 use Rattle.nf_parse.proofs.rules.rules.Given as goal
 
 abbrev pub invariant-rules : goal.invariant-rules

@@ -1,4 +1,4 @@
-use Rattle.nf_print.proofs.Line.{line_spells}
+use Rattle.nf_print.proofs.LineLemmas.{line_spells}
 use Rattle.nf_print.proofs.laws.canonical_lines_are_read.Goals as goal
 
 pub returns : goal.returns

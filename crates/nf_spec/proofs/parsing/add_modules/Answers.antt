@@ -1,8 +1,8 @@
 use Rattle.std.proofs.Common.{◌≡◌, [], ◌++◌, get_or, sym, ap, ◌∙◌, subst}
 use Rattle.std.proofs.lemmas.List.{get_or_default}
-use Rattle.nf_spec.specs.Parsing.{IsRefusal}
+use Rattle.nf_spec.specs.inner.Parsing.{IsRefusal}
 use Rattle.nf_core.specs.Trees.{IsWritten}
-use Rattle.nf_spec.proofs.Parsed.{refusal_here, parsed_here, parsed_more, few_more, written_more}
+use Rattle.nf_spec.proofs.ParsedSourceLemmas.{refusal_here, parsed_here, parsed_more, few_more, written_more}
 use Rattle.nf_spec.proofs.parsing.add_modules.Goals as goal
 
 pub returns-in-Err-clause-refused : goal.returns-in-Err-clause-refused

@@ -1,6 +1,6 @@
 use Rattle.std.proofs.Common.{◌≡◌, length, sym, subst, arith, Ok}
 use Rattle.nf_spec.specs.Sources.{AreParsed}
-use Rattle.nf_spec.proofs.Parsed.{parsed_all}
+use Rattle.nf_spec.proofs.ParsedSourceLemmas.{parsed_all}
 use Rattle.nf_spec.proofs.parsing.parse_sources.Goals as goal
 
 pub returns-clause-parsed : goal.returns-clause-parsed

@@ -1,6 +1,6 @@
 use Rattle.std.proofs.Common.{◌≤◌, take, All}
 use Rattle.nf_core.specs.Trees.{IsWritten}
-use Rattle.nf_spec.specs.Parsing.{AreParsedTo}
+use Rattle.nf_spec.specs.inner.Parsing.{AreParsedTo}
 use Rattle.nf_parse.specs.Answers.{rules_in, size_of}
 use Rattle.nf_spec.specs.Sources.{total}
 use Rattle.nf_spec.proofs.parsing.parse_sources.Given as goal

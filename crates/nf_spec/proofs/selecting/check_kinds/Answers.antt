@@ -1,6 +1,6 @@
 use Rattle.std.proofs.Common.{◌≡◌, ◌<◌, length, get_or, Some, refl, ap, ◌∙◌, subst, arith}
 use Rattle.nf_core.specs.Trees.{IsRule}
-use Rattle.nf_spec.proofs.Judged.{all_judged, one_judged, one_unjudged}
+use Rattle.nf_spec.proofs.KindLemmas.{all_judged, one_judged, one_unjudged}
 use Rattle.nf_spec.proofs.selecting.check_kinds.Goals as goal
 
 pub returns-in-Err-clause-err : goal.returns-in-Err-clause-err

@@ -1,4 +1,4 @@
-use Rattle.nf_spec.proofs.Judged.{AreJudged}
+use Rattle.nf_spec.proofs.KindLemmas.{AreJudged}
 use Rattle.nf_spec.proofs.selecting.check_kinds.Given as goal
 
 -- the rules before the place were judged

@@ -1,6 +1,6 @@
 use Rattle.std.specs.Option.{option_copied}
 use Rattle.nf_core.specs.Trees.{IsWritten}
-use Rattle.nf_spec.proofs.Selected.{selected_here, selected_all}
+use Rattle.nf_spec.proofs.SelectedRuleLemmas.{selected_here, selected_all}
 use Rattle.nf_spec.proofs.selecting.select_rules.Goals as goal
 
 pub returns-clause-written : goal.returns-clause-written

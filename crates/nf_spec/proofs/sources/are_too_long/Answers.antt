@@ -1,7 +1,7 @@
 use Rattle.std.proofs.Common.{rules, ◌≡◌, ◌<◌, [], get_or, length, ap, ◌∙◌, arith}
 use Rattle.std.proofs.lemmas.List.{get_or_default}
 use Rattle.nf_spec.specs.Sources.{specification_limit, total}
-use Rattle.nf_spec.proofs.Totals.{no_room}
+use Rattle.nf_spec.proofs.RoomLemmas.{no_room}
 use Rattle.nf_spec.proofs.sources.are_too_long.Goals as goal
 
 pub returns-then-room-length : goal.returns-then-room-length

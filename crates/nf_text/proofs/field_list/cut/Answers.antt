@@ -1,5 +1,5 @@
 use Rattle.std.proofs.Common.{arith, ◌<◌}
-use Rattle.nf_text.proofs.Cutting.{one_field, more_fields}
+use Rattle.nf_text.proofs.FieldLemmas.{one_field, more_fields}
 use Rattle.nf_text.proofs.field_list.cut.Goals as goal
 
 pub returns-in-Some : goal.returns-in-Some

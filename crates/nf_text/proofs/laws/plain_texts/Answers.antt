@@ -1,4 +1,4 @@
-use Rattle.nf_text.proofs.Plain.{plain_bytes, no_separators, plain_read, plain_found, plain_words_answer}
+use Rattle.nf_text.proofs.PlainTextLemmas.{plain_bytes, no_separators, plain_read, plain_found, plain_words_answer}
 use Rattle.nf_text.proofs.laws.plain_texts.Goals as goal
 
 pub returns-clause-bytes : goal.returns-clause-bytes

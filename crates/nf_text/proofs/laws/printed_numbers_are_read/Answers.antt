@@ -1,4 +1,4 @@
-use Rattle.nf_text.proofs.Spellings.{printed_spelling, spelled_whole, whole_canonical}
+use Rattle.nf_text.proofs.SpellingLemmas.{printed_spelling, spelled_whole, whole_canonical}
 use Rattle.nf_text.proofs.laws.printed_numbers_are_read.Goals as goal
 
 pub returns-clause-read : goal.returns-clause-read

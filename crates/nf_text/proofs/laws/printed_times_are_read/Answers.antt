@@ -1,7 +1,8 @@
 use Rattle.std.proofs.Common.{◌<◌, ◌^◌, pos, ap, ◌∙◌, Some, decimal, arith}
 use Rattle.std.proofs.lemmas.Fmt.{digits_decimal, digits_value-decimal, decimal_nonempty, length-decimal-le}
-use Rattle.nf_text.proofs.Numerals.{digits_model, time_is}
+use Rattle.nf_text.proofs.NumeralLemmas.{time_is}
 use Rattle.nf_text.proofs.laws.printed_times_are_read.Goals as goal
+use Rattle.nf_lemmas.proofs.DigitLemmas.{digits_model}
 
 pub returns : goal.returns
 returns c = λ n h.

@@ -1,6 +1,6 @@
 use Rattle.std.proofs.Common.{true, codes}
 use Rattle.std.proofs.lemmas.Slice.Eq.{bytes_eq-Decides}
-use Rattle.nf_text.proofs.Spellings.{truth_apart, spelled_truth, spelled_false, spelled_words, plain_words}
+use Rattle.nf_text.proofs.SpellingLemmas.{truth_apart, spelled_truth, spelled_false, spelled_words, plain_words}
 use Rattle.nf_text.proofs.laws.spellings_are_apart.Goals as goal
 
 pub returns-clause-apart : goal.returns-clause-apart

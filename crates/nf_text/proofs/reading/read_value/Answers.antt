@@ -1,9 +1,8 @@
 use Rattle.std.proofs.Common.{◌≡◌, sym, rules}
 use Rattle.nf_text.specs.Value.{Words, spelling_of}
-use Rattle.nf_text.proofs.Plain.{plain_answer}
+use Rattle.nf_text.proofs.PlainTextLemmas.{plain_answer}
 use Rattle.nf_text.proofs.reading.read_value.Goals as goal
 
--- src/reading.rt:15:1
 pub returns-in-None-clause-plain : goal.returns-in-None-clause-plain
 unfolding spelling_of
 returns-in-None-clause-plain c =

@@ -1,7 +1,7 @@
 use Rattle.std.proofs.Common.{Err, sym, ap, ◌∙◌}
 use Rattle.std.proofs.lemmas.Result.{err_from_is_err_and}
 use Rattle.std.specs.Result.{result_err}
-use Rattle.nf_typing.proofs.Steps.{goes_on, fails, ends}
+use Rattle.nf_typing.proofs.RulePartLemmas.{goes_on, fails, ends}
 use Rattle.nf_typing.proofs.rules.check_entries.Goals as goal
 
 pub returns-in_err-check_entry : goal.returns-in_err-check_entry

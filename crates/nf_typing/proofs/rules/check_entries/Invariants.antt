@@ -1,6 +1,6 @@
 use Rattle.std.proofs.Common.{[]}
 use Rattle.nf_typing.specs.Faults.{entries_fault}
-use Rattle.nf_typing.proofs.Steps.{IsFrom}
+use Rattle.nf_typing.proofs.RulePartLemmas.{IsFrom}
 use Rattle.nf_typing.proofs.rules.check_entries.Given as goal
 
 -- the first fault of all entries is that of the entries from the place on

@@ -1,4 +1,4 @@
-use Rattle.nf_typing.proofs.Right.{right}
+use Rattle.nf_typing.proofs.RightKindLemmas.{right}
 use Rattle.nf_typing.proofs.rules.check_rule.Goals as goal
 
 pub returns-clause-right : goal.returns-clause-right

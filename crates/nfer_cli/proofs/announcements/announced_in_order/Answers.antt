@@ -1,7 +1,7 @@
 use Rattle.std.proofs.Common.{◌≡◌, map, take, length, ap, ◌∙◌, arith}
 use Rattle.std.proofs.lemmas.List.{take_all}
 use Rattle.nfer_cli.specs.Announcements.{announcement, in_order}
-use Rattle.nfer_cli.proofs.InOrder.{sorted_in_order}
+use Rattle.nfer_cli.proofs.AnnouncementOrderLemmas.{sorted_in_order}
 use Rattle.nfer_cli.proofs.announcements.announced_in_order.Goals as goal
 
 pub returns : goal.returns

@@ -1,6 +1,6 @@
 use Rattle.std.proofs.Common.{arith}
 use Rattle.nf_core.specs.Plan.{keys_of}
-use Rattle.nfer_cli.proofs.Joining.{cell_more, cells_end}
+use Rattle.nfer_cli.proofs.JoinedTextLemmas.{cell_more, cells_end}
 use Rattle.nfer_cli.proofs.data_text.push_part.Goals as goal
 
 pub loop-place-preserved : goal.loop-place-preserved

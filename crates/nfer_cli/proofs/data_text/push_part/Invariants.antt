@@ -1,8 +1,8 @@
 use Rattle.std.proofs.Common.{◌≡◌, ◌++◌, drop, map}
 use Rattle.nf_core.specs.Plan.{keys_of}
 use Rattle.nfer_cli.specs.Announcements.{joined, present}
-use Rattle.nfer_cli.specs.Cells.{part_of}
-use Rattle.nfer_cli.proofs.Joining.{left}
+use Rattle.nfer_cli.specs.inner.Cells.{part_of}
+use Rattle.nfer_cli.proofs.JoinedTextLemmas.{left}
 use Rattle.nfer_cli.proofs.data_text.push_part.Given as goal
 
 abbrev pub invariant-loop-place : goal.invariant-loop-place

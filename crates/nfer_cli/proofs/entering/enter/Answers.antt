@@ -1,6 +1,6 @@
 use Rattle.std.proofs.Common.{◌≡◌, Some, None, rules}
 use Rattle.std.specs.Prelude.{position, bytes_eq}
-use Rattle.nfer_cli.proofs.Changed.{known_taken, known_stopped, unknown_taken, found_in}
+use Rattle.nfer_cli.proofs.ChangeTextLemmas.{known_taken, known_stopped, unknown_taken, found_in}
 use Rattle.nfer_cli.proofs.entering.enter.Goals as goal
 
 pub returns-in-Some-clause-taken : goal.returns-in-Some-clause-taken
@@ -18,5 +18,5 @@ returns-in-Some-clause-err g c =
 pub returns-in-None-clause-taken : goal.returns-in-None-clause-taken
 returns-in-None-clause-taken g c =
     let found : None ≡ position (bytes_eq c.args.raw.now.name) c.args.plan.now.names = search rules in
-    unknown_taken (g.O.Sink.taken c.args.out.now) (g.I.Inferer.content c.args.inferer) c.args.raw.now
+    unknown_taken (g.O.Sink.tells c.args.out.now).taken (g.I.Inferer.content c.args.inferer) c.args.raw.now
     (found_in c.args.plan.now (g.I.Inferer.content c.args.inferer) c.args.raw.now.name _ c.requires found)

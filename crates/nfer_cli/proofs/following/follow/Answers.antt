@@ -1,10 +1,10 @@
-use Rattle.std.proofs.Common.{◌≡◌, ℕ, List, IfSome, length, take, sym, ap, ◌∙◌, subst, arith, rules}
+use Rattle.std.proofs.Common.{◌≡◌, ℕ, List, IfSome, Ok, Err, length, take, sym, ap, ◌∙◌, subst, arith, rules}
 use Rattle.std.proofs.lemmas.List.{length-take-le}
 use Rattle.nf_io.specs.Bytes.{Gives}
-use Rattle.nfer_cli.specs.Ended.{EndsTrace}
-use Rattle.nfer_cli.specs.declared.status.Status.TheVariants as status
-use Rattle.nfer_cli.proofs.TraceEnds.{limit_is, stands_first, stands_more, ends_unread, ends_in_piece, ends_finished, ends_at_limit, same_buffer, follow_is_read, end_is_read}
-use Rattle.nfer_cli.specs.Answers.{is_read_fault}
+use Rattle.nfer_cli.specs.inner.Ended.{EndsTrace}
+use Rattle.nfer_cli.specs.inner.Failures.{session_status}
+use Rattle.nfer_cli.specs.declared.session_end.SessionEnd.TheVariants as session
+use Rattle.nfer_cli.proofs.TraceEndLemmas.{limit_is, stands_first, stands_more, ends_unread, ends_in_piece, ends_finished, ends_at_limit, same_buffer}
 use Rattle.nfer_cli.proofs.following.follow.Goals as goal
 
 pub pieces-init : goal.pieces-init
@@ -22,31 +22,37 @@ pieces-init g c = record {
 }
 
 pub returns-in_err-count-clause-answer : goal.returns-in_err-count-clause-answer
-returns-in_err-count-clause-answer g c = λ bytes told.
+returns-in_err-count-clause-answer g c = λ place bytes told.
     let s = c.in_err-count.field-0.0 in
-    let is : s ≡ status.ReadFault c.args.place = c.in_err-count.ensures.status in
-    let ends = ends_unread _ _ c.args.place c.args.place bytes c.pieces.taken _ _ _ _ _ (g.F.Shelf.rest c.read_piece.new.shelf) _ _ (c.pieces.invariant.stands bytes told) (omega (arith, limit_is, c.pieces-test.true)) c.in_err-count.ensures.unread (omega arith) in
-    let same = subst (λ s. EndsTrace c.args.plan.now (g.I.Inferer.content c.args.inferer).full c.args.place bytes s (g.F.Shelf.rest c.read_piece.new.shelf) (g.O.Sink.taken c.args.out.now) (g.O.Sink.taken c.pieces.out)) (sym is) ends in
+    let is : s ≡ session.ReadFault = c.in_err-count.ensures.end in
+    let ends = ends_unread _ _ place place bytes c.pieces.taken _ _ _ _ _ (g.F.Shelf.tells c.read_piece.new.shelf).rest _ _ (c.pieces.invariant.stands bytes told) (omega (arith, limit_is, c.pieces-test.true)) c.in_err-count.ensures.unread (omega arith) in
+    let same = subst (λ end. EndsTrace c.args.plan.now (g.I.Inferer.content c.args.inferer).full place bytes (session_status place (Err end)) (g.F.Shelf.tells c.read_piece.new.shelf).rest (g.O.Sink.tells c.args.out.now).taken (g.O.Sink.tells c.pieces.out).taken) (sym is) ends in
     search (rules, same)
 
+pub returns-in_err-finish-clause-answer : goal.returns-in_err-finish-clause-answer
+returns-in_err-finish-clause-answer g c = λ place bytes told.
+    let ends = ends_finished _ _ place bytes c.read_piece.new.buffer c.pieces.taken c.in_ok-count.count (Err c.in_err-finish.field-0.0) _ _ _ _ _ _ _ _ _ (c.pieces.invariant.stands bytes told)
+    (omega (arith, limit_is, c.pieces-test.true)) c.in_ok-count.ensures.bytes c.in_ok-count.ensures.rest c.if-count-eq0.true tt tt c.in_err-finish.ensures.stops in
+    search (rules, ends)
+
 pub returns-then-count-eq0-clause-answer : goal.returns-then-count-eq0-clause-answer
-returns-then-count-eq0-clause-answer g c = λ bytes told.
-    ends_finished _ _ c.args.place bytes c.read_piece.new.buffer c.pieces.taken c.in_ok-count.count c.finish.result _ _ _ _ _ _ _ _ _ (c.pieces.invariant.stands bytes told)
-    (omega (arith, limit_is, c.pieces-test.true)) c.in_ok-count.ensures.bytes c.in_ok-count.ensures.rest c.if-count-eq0.true c.finish.ensures.done c.finish.ensures.taken c.finish.ensures.stops
+returns-then-count-eq0-clause-answer g c = λ place bytes told.
+    ends_finished _ _ place bytes c.read_piece.new.buffer c.pieces.taken c.in_ok-count.count (Ok tt) _ _ _ _ _ _ _ _ _ (c.pieces.invariant.stands bytes told)
+    (omega (arith, limit_is, c.pieces-test.true)) c.in_ok-count.ensures.bytes c.in_ok-count.ensures.rest c.if-count-eq0.true c.in_ok-finish.ensures.done c.in_ok-finish.ensures.taken tt
 
 pub returns-in_err-follower-clause-answer : goal.returns-in_err-follower-clause-answer
-returns-in_err-follower-clause-answer g c = λ bytes told.
+returns-in_err-follower-clause-answer g c = λ place bytes told.
     let buffer : c.deref.result.now ≡ c.read_piece.new.buffer = same_buffer _ _ _ _ c.deref.ensures.value (c.read_piece.ensures.room ∙ sym c.pieces.invariant.room) in
-    let gives : IfSome (g.F.Shelf.rest c.pieces.shelf) (Gives c.deref.result.now c.in_ok-count.count) = subst (λ (b : List ℕ). IfSome (g.F.Shelf.rest c.pieces.shelf) (Gives b c.in_ok-count.count)) (sym buffer) c.in_ok-count.ensures.bytes in
+    let gives : IfSome (g.F.Shelf.tells c.pieces.shelf).rest (Gives c.deref.result.now c.in_ok-count.count) = subst (λ (b : List ℕ). IfSome (g.F.Shelf.tells c.pieces.shelf).rest (Gives b c.in_ok-count.count)) (sym buffer) c.in_ok-count.ensures.bytes in
     let ends = ends_in_piece c.what_is_known_of_a_trace_stays.ensures.refused c.what_is_known_of_a_trace_stays.ensures.goes_on c.what_is_known_of_a_trace_stays.ensures.never_too_long
-    _ _ c.args.place bytes c.deref.result.now c.pieces.taken c.in_ok-count.count c.in_err-follower.field-0.0 _ _ _ _ _ _ _ _ _ (c.pieces.invariant.stands bytes told)
+    _ _ place bytes c.deref.result.now c.pieces.taken c.in_ok-count.count c.in_err-follower.field-0.0 _ _ _ _ _ _ _ _ _ (c.pieces.invariant.stands bytes told)
     (omega (arith, limit_is, c.pieces-test.true)) (omega (arith, limit_is, c.in_ok-count.ensures.within)) c.in_ok-count.ensures.one_piece gives c.in_ok-count.ensures.rest c.in_err-follower.ensures.stops in
     search (rules, ends)
 
 pub pieces-preserved : goal.pieces-preserved
 pieces-preserved g c =
     let buffer : c.deref.result.now ≡ c.read_piece.new.buffer = same_buffer _ _ _ _ c.deref.ensures.value (c.read_piece.ensures.room ∙ sym c.pieces.invariant.room) in
-    let gives : IfSome (g.F.Shelf.rest c.pieces.shelf) (Gives c.deref.result.now c.in_ok-count.count) = subst (λ (b : List ℕ). IfSome (g.F.Shelf.rest c.pieces.shelf) (Gives b c.in_ok-count.count)) (sym buffer) c.in_ok-count.ensures.bytes in
+    let gives : IfSome (g.F.Shelf.tells c.pieces.shelf).rest (Gives c.deref.result.now c.in_ok-count.count) = subst (λ (b : List ℕ). IfSome (g.F.Shelf.tells c.pieces.shelf).rest (Gives b c.in_ok-count.count)) (sym buffer) c.in_ok-count.ensures.bytes in
     let count : length (take c.in_ok-count.count c.deref.result.now) ≡ c.in_ok-count.count = length-take-le c.in_ok-count.count c.deref.result.now (omega (arith, c.in_ok-count.ensures.one_piece, c.deref.ensures.len, c.pieces.invariant.room)) in
     record {
       room = search rules;
@@ -64,22 +70,6 @@ pieces-preserved g c =
     }
 
 pub returns-clause-answer : goal.returns-clause-answer
-returns-clause-answer g c = λ bytes told.
-    ends_at_limit c.what_is_known_of_a_trace_stays.ensures.at_limit _ _ c.args.place bytes c.pieces.taken _ _ _ _ _ _ _ (c.pieces.invariant.stands bytes told)
+returns-clause-answer g c = λ place bytes told.
+    ends_at_limit c.what_is_known_of_a_trace_stays.ensures.at_limit _ _ place bytes c.pieces.taken _ _ _ _ _ _ _ (c.pieces.invariant.stands bytes told)
     (omega (arith, limit_is, c.pieces-test.false, c.pieces.invariant.few))
-
-pub returns-in_err-count-clause-only_failed : goal.returns-in_err-count-clause-only_failed
-returns-in_err-count-clause-only_failed g c =
-    let s = c.in_err-count.field-0.0 in
-    let is : s ≡ status.ReadFault c.args.place = c.in_err-count.ensures.status in
-    let failed : g.F.Shelf.failed c.read_piece.new.shelf ≡ is_read_fault s = c.in_err-count.ensures.failed ∙ sym (ap is_read_fault is) in
-    search (rules, failed)
-
-pub returns-then-count-eq0-clause-only_failed : goal.returns-then-count-eq0-clause-only_failed
-returns-then-count-eq0-clause-only_failed g c = λ before. c.in_ok-count.ensures.failed ∙ sym (end_is_read c.finish.result c.finish.ensures.kinds)
-
-pub returns-in_err-follower-clause-only_failed : goal.returns-in_err-follower-clause-only_failed
-returns-in_err-follower-clause-only_failed g c =
-    let s = c.in_err-follower.field-0.0 in
-    let failed : g.F.Shelf.failed c.read_piece.new.shelf ≡ is_read_fault s = c.in_ok-count.ensures.failed ∙ sym (follow_is_read s c.in_err-follower.ensures.kinds) in
-    search (rules, failed)

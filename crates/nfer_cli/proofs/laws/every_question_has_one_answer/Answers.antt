@@ -1,5 +1,5 @@
-use Rattle.nfer_cli.proofs.DefinedAnswers.{some_answer}
-use Rattle.nfer_cli.proofs.OneAnswer.{one_answer}
+use Rattle.nfer_cli.proofs.ExistenceLemmas.{some_answer}
+use Rattle.nfer_cli.proofs.UniquenessLemmas.{one_answer}
 use Rattle.nfer_cli.proofs.laws.every_question_has_one_answer.Goals as goal
 
 pub returns : goal.returns

@@ -1,4 +1,4 @@
-use Rattle.nfer_cli.proofs.FollowText.{follow_text-is}
+use Rattle.nfer_cli.proofs.FollowTextLemmas.{follow_text-is}
 use Rattle.nfer_cli.proofs.laws.follow_text_is_one_change_after_another.Goals as goal
 
 pub returns : goal.returns

@@ -3,7 +3,7 @@ use Rattle.std.proofs.lemmas.List.{take_all}
 use Rattle.nf_core.specs.Trees.{IsWritten}
 use Rattle.nf_core.specs.declared.trees.Rule.{Rule}
 use Rattle.nf_print.specs.Canonical.{canonical}
-use Rattle.nfer_cli.proofs.ByLevel.{All-by_level, listing_from}
+use Rattle.nfer_cli.proofs.ListingLemmas.{All-by_level, listing_from}
 use Rattle.nfer_cli.proofs.listing.listing.Goals as goal
 
 pub print-requires : goal.print-requires

@@ -2,7 +2,7 @@ use Rattle.std.proofs.Common.{◌≡◌, map, Bor, ◌∙◌, arith, rules}
 use Rattle.std.proofs.lemmas.List.{take_all}
 use Rattle.nf_core.specs.declared.trees.Rule.{Rule}
 use Rattle.nfer_cli.specs.Listing.{head_level}
-use Rattle.nfer_cli.proofs.Grouped.{sorted_shown}
+use Rattle.nfer_cli.proofs.StableSortLemmas.{sorted_shown}
 use Rattle.nfer_cli.proofs.listing.rules_by_level.Goals as goal
 
 pub returns : goal.returns

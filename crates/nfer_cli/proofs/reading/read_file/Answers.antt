@@ -1,5 +1,5 @@
 use Rattle.std.proofs.Common.{rules}
-use Rattle.nfer_cli.proofs.FileBytes.{told_ended, told_passed, read_all, is_longer, stands_at_end, stands_past, stands_short, unpicked}
+use Rattle.nfer_cli.proofs.FileLemmas.{told_ended, told_passed, read_all, is_longer, stands_at_end, stands_past, stands_short, unpicked}
 use Rattle.nfer_cli.proofs.reading.read_file.Goals as goal
 
 pub returns-in_err-read_rest-clause-too_long : goal.returns-in_err-read_rest-clause-too_long

@@ -1,5 +1,5 @@
 use Rattle.std.proofs.Common.{rules}
-use Rattle.nfer_cli.proofs.FileBytes.{stopped}
+use Rattle.nfer_cli.proofs.FileLemmas.{stopped}
 use Rattle.nfer_cli.proofs.reading.read_rest.Goals as goal
 
 pub returns-clause-end : goal.returns-clause-end

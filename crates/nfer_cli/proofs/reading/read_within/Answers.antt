@@ -1,5 +1,5 @@
 use Rattle.std.proofs.Common.{arith, ap, length}
-use Rattle.nfer_cli.proofs.FileBytes.{passed}
+use Rattle.nfer_cli.proofs.FileLemmas.{passed}
 use Rattle.nfer_cli.proofs.reading.read_within.Goals as goal
 
 pub returns-then-as_slice-most-clause-too_long : goal.returns-then-as_slice-most-clause-too_long

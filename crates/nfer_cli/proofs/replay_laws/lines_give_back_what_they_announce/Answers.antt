@@ -1,7 +1,7 @@
 use Rattle.std.proofs.Common.{◌≢◌}
 use Rattle.std.proofs.lemmas.List.Elements.{All-from_recursion}
 use Rattle.nfer_cli.specs.Announcements.{announcement, unsigned_line}
-use Rattle.nfer_cli.proofs.LineBack.{signed_back, line_unfed}
+use Rattle.nfer_cli.proofs.LineBackLemmas.{signed_back, line_unfed}
 use Rattle.nfer_cli.proofs.replay_laws.lines_give_back_what_they_announce.Goals as goal
 
 pub returns : goal.returns

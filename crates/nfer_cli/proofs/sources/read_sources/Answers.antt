@@ -1,10 +1,9 @@
 use Rattle.std.proofs.Common.{◌≡◌, ◌+◌, ◌≤◌, length, ap, ◌∙◌, subst, Option, IfSome, arith, length-append, [], ◌∷◌, ◌++◌, refl, rules}
 use Rattle.nf_io.specs.Files.{Files}
 use Rattle.nf_spec.specs.Sources.{specification_limit, total}
-use Rattle.nfer_cli.specs.Sources.{passing}
-use Rattle.nfer_cli.proofs.Passing.{total_more, passing_more}
-use Rattle.nfer_cli.proofs.FilesRead.{nothing_passes, nothing_known, nothing_asked, known_more, asked_here, ends_before, past_here}
-use Rattle.nfer_cli.proofs.ShortRead.{short_here}
+use Rattle.nf_spec.proofs.Public.TotalLemmas.{total_more}
+use Rattle.nfer_cli.proofs.FilesReadLemmas.{nothing_total, nothing_known, nothing_asked, known_more, asked_here, ends_before}
+use Rattle.nfer_cli.proofs.ShortReadLemmas.{fails_here}
 use Rattle.nfer_cli.proofs.sources.read_sources.Goals as goal
 
 pub names-init : goal.names-init
@@ -14,9 +13,9 @@ names-init g c = record {
   calm = λ some. absurd (omega arith);
   count = ap length c.new-sources.ensures;
   room = ap (λ sources. total sources + specification_limit) c.new-sources.ensures;
-  fits = nothing_passes specification_limit c.new-sources.result c.new-sources.ensures;
-  known = nothing_known (g.F.Shelf.files c.args.shelf.now) c.args.names.now c.new-sources.result c.new-sources.ensures;
-  asks = nothing_asked (g.F.Shelf.files c.args.shelf.now) c.args.names.now (g.F.Shelf.asked c.args.shelf.now);
+  fits = nothing_total c.new-sources.result c.new-sources.ensures;
+  known = nothing_known (g.F.Shelf.tells c.args.shelf.now).files c.args.names.now c.new-sources.result c.new-sources.ensures;
+  asks = nothing_asked (g.F.Shelf.tells c.args.shelf.now).files c.args.names.now (g.F.Shelf.tells c.args.shelf.now).asked;
   end = λ some. absurd (omega arith);
 }
 
@@ -35,21 +34,15 @@ names-preserved g c =
       calm = λ some. c.in_ok-source.ensures.failed;
       count = omega (arith, count, c.names.invariant.count);
       room = omega (arith, bytes, taken, low, c.names.invariant.room);
-      fits = ap (passing specification_limit) pushed ∙ passing_more specification_limit c.names.room c.names.sources source c.names.invariant.fits c.names.invariant.room low;
-      known = known_more (g.F.Shelf.files c.args.shelf.now) c.args.names.now c.names.place c.names.sources c.push.new.self source c.names-test.true c.names.invariant.known (told _ c.in_ok-source.ensures.bytes) pushed;
-      asks = asked_here (g.F.Shelf.files c.args.shelf.now) c.args.names.now c.names.place _ _ c.names-test.true (told _ c.read_source.ensures.asked);
-      end = λ some. ends_before (g.F.Shelf.files c.args.shelf.now) c.args.names.now c.names.place _ _ (told _ c.in_ok-source.ensures.end);
+      fits = omega (arith, bytes, low, c.names.invariant.room);
+      known = known_more (g.F.Shelf.tells c.args.shelf.now).files c.args.names.now c.names.place c.names.sources c.push.new.self source c.names-test.true c.names.invariant.known (told _ c.in_ok-source.ensures.bytes) pushed;
+      asks = asked_here (g.F.Shelf.tells c.args.shelf.now).files c.args.names.now c.names.place _ _ c.names-test.true (told _ c.read_source.ensures.asked);
+      end = λ some. ends_before (g.F.Shelf.tells c.args.shelf.now).files c.args.names.now c.names.place _ _ (told _ c.in_ok-source.ensures.end);
     }
 
-pub returns-in_err-source-clause-too_long : goal.returns-in_err-source-clause-too_long
-returns-in_err-source-clause-too_long g c = λ is.
-    let told = λ (P : Files → Type 0). subst (λ (t : Option Files). IfSome t P) c.names.invariant.files in
-    past_here (g.F.Shelf.files c.args.shelf.now) c.args.names.now c.names.place c.names.room c.names.sources _ _
-    c.names-test.true c.names.invariant.count c.names.invariant.room c.names.invariant.fits c.names.invariant.known
-    (told _ (c.read_source.ensures.too_long (search rules))) (told _ (c.read_source.ensures.stopped (search rules)))
-
-pub returns-in_err-source-clause-unread : goal.returns-in_err-source-clause-unread
-returns-in_err-source-clause-unread g c =
-    let short = short_here c.in_err-source.field-0.0 (g.F.Shelf.files c.args.shelf.now) (g.F.Shelf.files c.names.shelf) c.args.names.now c.names.place c.names.room c.names.sources (g.F.Shelf.asked c.read_source.new.shelf) (g.F.Shelf.rest c.read_source.new.shelf)
-    c.names-test.true c.names.invariant.room c.names.invariant.known c.names.invariant.files c.in_err-source.ensures.at c.in_err-source.ensures.unread in
-    search (rules, short)
+pub returns-in_err-source-clause-fails : goal.returns-in_err-source-clause-fails
+returns-in_err-source-clause-fails g c =
+    let fails = fails_here c.args.names.now c.names.place c.names.room c.names.sources c.in_err-source.field-0.0
+    (g.F.Shelf.tells c.args.shelf.now) (g.F.Shelf.tells c.names.shelf) (g.F.Shelf.tells c.read_source.new.shelf)
+    c.names-test.true c.names.invariant.count c.names.invariant.room c.names.invariant.fits c.names.invariant.known c.names.invariant.files c.names.invariant.later c.in_err-source.ensures.fails in
+    search (rules, fails)

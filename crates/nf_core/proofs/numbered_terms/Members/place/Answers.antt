@@ -1,6 +1,7 @@
 use Rattle.std.proofs.Common.{◌≡◌, ◌<◌, ◌^◌, length, ap, arith}
-use Rattle.nf_core.specs.Numbered.{members_seen, keys_under}
-use Rattle.nf_core.proofs.Numbered.{few_keys_under}
+use Rattle.nf_core.specs.inner.Numbered.{members_seen}
+use Rattle.nf_core.specs.Written.{keys_under}
+use Rattle.nf_core.proofs.NumberedTermLemmas.{few_keys_under}
 use Rattle.nf_core.proofs.numbered_terms.Members.place.Goals as goal
 
 pub overflow_cast-result : goal.overflow_cast-result

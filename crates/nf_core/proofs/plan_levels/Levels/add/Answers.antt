@@ -1,21 +1,16 @@
-use Rattle.std.proofs.Common.{◌≡◌, ℕ, String, List, [], ◌∷◌, ◌++◌, map, None, sym, ap, ◌∙◌, bytes_eq}
-use Rattle.std.specs.String.{string_bytes, string_eq}
-use Rattle.std.proofs.lemmas.List.{map_push}
-use Rattle.indexmap.specs.IndexMap.{IndexMap, insert_entry}
-use Rattle.indexmap.proofs.CallerLemmas.{insert_entry-new}
-use Rattle.nf_core.specs.Written.{Levels, level_of_name}
-use Rattle.nf_core.proofs.Maps.{lookup-map_keys}
+use Rattle.std.proofs.Common.{length, ap, sym, ◌∙◌}
+use Rattle.nf_core.proofs.LevelPairLemmas.{inserted_last, zip-insert_key, lookup_seen, same_length}
 use Rattle.nf_core.proofs.plan_levels.Levels.add.Goals as goal
 
-abbrev shown : {A : Type 0} → List (String A × ℕ) → Levels
-shown es = map (λ level. (string_bytes level.0, level.1)) es
+-- src/plan_levels.rt:63:23
+pub invariant_of-self-in-Ok : goal.invariant_of-self-in-Ok
+invariant_of-self-in-Ok c =
+    ap length (c.in-Ok.ensures.ok ∙ inserted_last c.self.inside.names c.self.inside.levels.items c.args.name.now c.args.level c.self.invariant (lookup_seen _ _ _ c.self.view_is c.requires))
+    ∙ same_length c.self.inside.names c.self.inside.levels.items c.args.name.now c.args.level c.self.invariant
+    ∙ ap length (sym c.in_ok-push.ensures.items)
 
--- a name without a level goes last
-put : {A S : Type 0} (m : IndexMap (String A) ℕ S) (name : String A) (level : ℕ) → level_of_name (shown m.entries) (string_bytes name) ≡ None
-    → shown (insert_entry string_eq m.entries name level) ≡ shown m.entries ++ (string_bytes name, level) ∷ []
-put m name level none =
-    ap shown (insert_entry-new string_eq m name level (sym (lookup-map_keys string_bytes (bytes_eq (string_bytes name)) m.entries) ∙ none))
-    ∙ map_push (λ level. (string_bytes level.0, level.1)) m.entries (name, level)
-
-pub returns-clause-ok : goal.returns-clause-ok
-returns-clause-ok c = rw (c.in_ok-insert.ensures.entries, ← c.self.view_is, ← c.in_ok-name.ensures.ok) (put c.self.inside.levels c.in_ok-name.name c.args.level (rw (c.self.view_is, c.in_ok-name.ensures.ok) c.requires))
+-- src/plan_levels.rt:56:5
+pub returns-in-Ok-clause-ok : goal.returns-in-Ok-clause-ok
+returns-in-Ok-clause-ok c =
+    rw (c.in-Ok.ensures.ok, c.in_ok-push.ensures.items, ← c.self.view_is)
+    (zip-insert_key c.self.inside.names c.self.inside.levels.items c.args.name.now c.args.level c.self.invariant (lookup_seen _ _ _ c.self.view_is c.requires))

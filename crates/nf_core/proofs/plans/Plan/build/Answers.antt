@@ -2,8 +2,8 @@ use Rattle.std.proofs.Common.{◌≡◌, ◌<◌, ◌^◌, List, ℕ, length, ma
 use Rattle.std.proofs.lemmas.List.Elements.{All-map}
 use Rattle.nf_core.specs.Plan.{IsPlan}
 use Rattle.nf_core.specs.Written.{names_of, keys_of_name}
-use Rattle.nf_core.proofs.Numbered.{parts-plan_of}
-use Rattle.nf_core.proofs.PlanOf.{IsPlan-plan_of}
+use Rattle.nf_core.proofs.NumberedTermLemmas.{parts-plan_of}
+use Rattle.nf_core.proofs.Public.PlanLemmas.{IsPlan-plan_of}
 use Rattle.nf_core.proofs.plans.Plan.build.Goals as goal
 
 pub rules_by_number-requires-clause-few_keys : goal.rules_by_number-requires-clause-few_keys

@@ -1,7 +1,7 @@
 use Rattle.std.proofs.Common.{sym, ◌∙◌}
 use Rattle.std.specs.Cmp.Lexicographic.{nat_list_cmp_total}
 use Rattle.nf_core.specs.Texts.{text_cmp}
-use Rattle.nf_core.proofs.Ascending.{insert_key-present}
+use Rattle.nf_core.proofs.Public.AscendingLemmas.{insert_key-present}
 use Rattle.nf_core.proofs.sorted_texts.SortedTexts.add.Goals as goal
 
 pub returns-then-contains-clause-ok : goal.returns-then-contains-clause-ok

@@ -2,7 +2,7 @@ use Rattle.std.proofs.Common.{◌≡◌, rules, subst, ◌∙◌}
 use Rattle.std.specs.List.Sorted.{IsStrictlySortedBy}
 use Rattle.nf_core.specs.Texts.{text_cmp}
 use Rattle.nf_core.specs.Written.{each_once}
-use Rattle.nf_core.proofs.Ascending.{each_once-ascending}
+use Rattle.nf_core.proofs.Public.AscendingLemmas.{each_once-ascending}
 use Rattle.nf_core.proofs.sorted_texts.SortedTexts.into_set.Goals as goal
 
 pub returns : goal.returns

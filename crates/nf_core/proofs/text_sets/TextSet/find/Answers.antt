@@ -1,6 +1,6 @@
 use Rattle.std.proofs.Common.{sym, bytes_eq}
 use Rattle.std.specs.String.{string_bytes}
-use Rattle.nf_core.proofs.Maps.{position-map}
+use Rattle.nf_lemmas.proofs.MapLemmas.{position-map}
 use Rattle.nf_core.proofs.text_sets.TextSet.find.Goals as goal
 
 pub returns : goal.returns

@@ -1,5 +1,5 @@
 use Rattle.std.proofs.Common.{unwrap_or, bytes_eq, ◌∙◌}
-use Rattle.nf_core.proofs.Maps.{position-or_len}
+use Rattle.nf_lemmas.proofs.MapLemmas.{position-or_len}
 use Rattle.nf_core.proofs.text_sets.TextSet.place_of.Goals as goal
 
 pub returns-clause-place : goal.returns-clause-place

@@ -1,7 +1,7 @@
 use Rattle.std.proofs.Common.{refl, Global}
 use Rattle.std.specs.String.{string_bytes, string_eq}
 use Rattle.nf_core.specs.Texts.{text_eq}
-use Rattle.nf_core.proofs.Maps.{insert_key-map}
+use Rattle.nf_lemmas.proofs.MapLemmas.{insert_key-map}
 use Rattle.nf_core.proofs.text_sets.TextSet.put.Goals as goal
 
 pub returns-clause-ok : goal.returns-clause-ok

@@ -1,5 +1,5 @@
 use Rattle.std.specs.String.{string_bytes}
-use Rattle.nf_core.proofs.Maps.{map-from_clones}
+use Rattle.nf_lemmas.proofs.MapLemmas.{map-from_clones}
 use Rattle.nf_core.proofs.text_sets.TextSetTryCopy.copy.Goals as goal
 
 pub returns : goal.returns

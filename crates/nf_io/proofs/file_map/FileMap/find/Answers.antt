@@ -1,4 +1,4 @@
-use Rattle.nf_io.proofs.Found.{IsFound, IsFound-position}
+use Rattle.nf_io.proofs.FileLemmas.{IsFound, IsFound-position}
 use Rattle.nf_io.proofs.file_map.FileMap.find.Goals as goal
 
 pub returns : goal.returns

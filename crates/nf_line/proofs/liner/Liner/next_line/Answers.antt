@@ -1,5 +1,5 @@
 use Rattle.std.proofs.Common.{eqb}
-use Rattle.nf_line.proofs.Feeds.{none_before}
+use Rattle.nf_line.proofs.LineFeedLemmas.{none_before}
 use Rattle.nf_line.proofs.liner.Liner.next_line.Goals as goal
 
 pub keep-requires : goal.keep-requires

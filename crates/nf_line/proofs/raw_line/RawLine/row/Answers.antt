@@ -3,7 +3,7 @@ use Rattle.std.proofs.lemmas.List.Elements.{All-push}
 use Rattle.nf_core.specs.Plan.{keys_of}
 use Rattle.nf_core.specs.Rows.{IsPlainCell}
 use Rattle.nf_line.specs.Line.{spelled}
-use Rattle.nf_line.proofs.Cells.{row_more}
+use Rattle.nf_line.proofs.CellLemmas.{row_more}
 use Rattle.nf_line.proofs.raw_line.RawLine.row.Goals as goal
 
 pub loop-place-preserved : goal.loop-place-preserved

@@ -1,27 +1,26 @@
-use Rattle.std.proofs.Common.{◌≡◌, ◌<◌, List, [], length, slice_set, ap, subst, sym, ◌∙◌}
-use Rattle.std.proofs.lemmas.List.{get_or_read, length-set}
+use Rattle.std.proofs.Common.{◌≡◌, ◌<◌, List, [], length, slice_set, ap, subst, sym, ◌∙◌, rules}
+use Rattle.std.proofs.lemmas.List.{get_or_read}
 use Rattle.nf_core.specs.Intervals.{Interval}
 use Rattle.nf_core.specs.Sets.{inserted}
 use Rattle.nf_model.specs.Changes.{Content, with_input, change}
 use Rattle.nf_model.specs.Members.{AreOfKeys}
-use Rattle.nf_model.specs.Known.{ArePools}
+use Rattle.nf_model.specs.inner.Known.{ArePools}
 use Rattle.nf_model.specs.Pools.{Inputs, of_name}
-use Rattle.nf_model.proofs.Cells.{stepped_cells}
-use Rattle.nf_model.proofs.Heads.{step_changes}
+use Rattle.nf_model.proofs.ContentLemmas.{stepped}
+use Rattle.nf_model.proofs.HeadLemmas.{step_changes}
 use Rattle.nf_model.proofs.scratches.ScratchInferer.step.Goals as goal
 
 pub pools_of-requires-clause-rows : goal.pools_of-requires-clause-rows
 pools_of-requires-clause-rows g c =
     subst (AreOfKeys c.self.inside.plan) (sym c.as_slice.ensures.value)
-    (stepped_cells c.args.self c.self.inside.plan c.self.inside.full c.self.inside.inputs.items c.args.name c.args.interval c.index_mut.result.now c.insert.new.self
-    c.self.view_is c.self.invariant.each c.self.invariant.rows c.requires.name c.requires.row c.index_mut.ensures.value c.in_ok-insert.ensures.ok)
+    (stepped c.args.self c.self.inside.plan c.self.inside.full c.self.inside.inputs.items c.args.name c.args.interval c.index_mut.result.now c.insert.new.self
+    (c.self.view_is, c.self.invariant.content) c.requires.name c.requires.row (search rules) c.index_mut.ensures.value c.in_ok-insert.ensures.ok).rows
 
 pub invariant_of-scratch : goal.invariant_of-scratch
 invariant_of-scratch g c = record {
-  each = length-set c.self.inside.inputs.items c.args.name c.insert.new.self ∙ c.self.invariant.each;
-  rows =
-      stepped_cells c.args.self c.self.inside.plan c.self.inside.full c.self.inside.inputs.items c.args.name c.args.interval c.index_mut.result.now c.insert.new.self
-      c.self.view_is c.self.invariant.each c.self.invariant.rows c.requires.name c.requires.row c.index_mut.ensures.value c.in_ok-insert.ensures.ok;
+  content =
+      stepped c.args.self c.self.inside.plan c.self.inside.full c.self.inside.inputs.items c.args.name c.args.interval c.index_mut.result.now c.insert.new.self
+      (c.self.view_is, c.self.invariant.content) c.requires.name c.requires.row (search rules) c.index_mut.ensures.value c.in_ok-insert.ensures.ok;
   known = subst (λ (ins : Inputs). ArePools c.self.inside.plan c.self.inside.full ins c.in_ok-pools.pools.items) c.as_slice.ensures.value c.in_ok-pools.ensures;
 }
 
@@ -30,7 +29,7 @@ returns-clause-change g c =
     let content : Content = record { plan = c.self.inside.plan; full = c.self.inside.full; inputs = c.self.inside.inputs.items } in
     let named : c.args.name < length content.plan.names =
     subst (λ (s : Content). c.args.name < length s.plan.names) (sym c.self.view_is) c.requires.name in
-    let within : c.args.name < length content.inputs = rw c.self.invariant.each named in
+    let within : c.args.name < length content.inputs = rw c.self.invariant.content.each named in
     let read = get_or_read content.inputs _ _ within c.index_mut.ensures.value [] in
     let set : c.insert.new.self ≡ inserted c.args.interval (of_name content.inputs c.args.name) =
     c.in_ok-insert.ensures.ok ∙ ap (inserted c.args.interval) read in

@@ -1,4 +1,4 @@
-use Rattle.nf_order.proofs.Numbers.{IsGraph-graph_of}
+use Rattle.nf_order.proofs.GraphLemmas.{IsGraph-graph_of}
 use Rattle.nf_order.proofs.graph.Graph.of.Goals as goal
 
 pub invariant_of-result : goal.invariant_of-result

@@ -1,4 +1,4 @@
-use Rattle.nfer_cli.proofs.Standing.{stands_first}
+use Rattle.nfer_cli.proofs.FollowerLemmas.{stands_first}
 use Rattle.nfer_cli.proofs.follower.Follower.new.Goals as goal
 
 pub returns-clause-stands : goal.returns-clause-stands

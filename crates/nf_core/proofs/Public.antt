@@ -1,0 +1,7 @@
+-- Lemmas that the crates above cite.
+pub mod AscendingLemmas
+pub mod TreeLemmas
+pub mod EachOnceLemmas
+pub mod PlanLemmas
+pub mod WorkedDefinitions
+pub mod WrittenNumberLemmas

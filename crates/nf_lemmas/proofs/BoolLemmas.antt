@@ -1,0 +1,24 @@
+-- Both of two tests, neither, and the answers of a choice.
+use Rattle.std.proofs.Common.{◌≡◌, Bool, true, false, ◌&&◌, ◌||◌, cond, Some, None, refl}
+
+pub both : (a b : Bool) → (a && b) ≡ true → (a ≡ true) × (b ≡ true)
+both true true e = (refl, refl)
+both true false e = cc
+both false b e = cc
+
+pub neither : (a b : Bool) → (a || b) ≡ false → (a ≡ false) × (b ≡ false)
+neither true b e = cc
+neither false true e = cc
+neither false false e = (refl, refl)
+
+-- the two answers of a choice
+pub choose_first : {A : Type 0} (b : Bool) (x y : A) → b ≡ true → cond b x y ≡ x
+choose_first b x y e = rw e
+
+pub choose_second : {A : Type 0} (b : Bool) (x y : A) → b ≡ false → cond b x y ≡ y
+choose_second b x y e = rw e
+
+-- what is none unless a test fails is none where the test passes
+pub passed_where_none : {A : Type 0} (b : Bool) (x : A) → cond b None (Some x) ≡ None → b ≡ true
+passed_where_none true x e = refl
+passed_where_none false x e = absurd cc

@@ -1,0 +1,4 @@
+-- How the code works, no part of the meaning.
+pub mod FieldTexts
+pub mod Plain
+pub mod Stages

@@ -1,0 +1,4 @@
+-- Lemmas that the crates above cite.
+pub mod LevelLemmas
+pub mod ChangeLemmas
+pub mod InputLemmas

@@ -1,0 +1,4 @@
+-- How the code works, no part of the meaning.
+pub mod Graph
+pub mod Marks
+pub mod Reach

@@ -1,0 +1,8 @@
+-- How the code works, no part of the meaning.
+pub mod Parsers
+pub mod Parts
+pub mod Reading
+pub mod FileReading
+pub mod RuleReading
+pub mod Limited
+pub mod Lexical

@@ -1,0 +1,4 @@
+-- Lemmas that the crates above cite.
+pub mod TotalLemmas
+pub mod PassedLimitLemmas
+pub mod FaultLemmas

@@ -1,0 +1,226 @@
+-- All that a call promises, from what its parts promise.
+use Rattle.std.proofs.Common.{◌≡◌, ℕ, ◌<◌, ◌≤◌, false, List, [], ◌∷◌, ◌++◌, length, Option, Some, None, IfSome, Result, Ok, Err, refl, sym, ◌∙◌, subst, inl, arith}
+use Rattle.nf_io.specs.Files.{Files}
+use Rattle.nf_io.specs.Causes.{Rose}
+use Rattle.nf_io.specs.Tells.{ShelfTells, SinkTells}
+use Rattle.nf_io.proofs.Public.{Took-none}
+use Rattle.nf_spec.specs.declared.compiling.Compiled.{Compiled}
+use Rattle.nfer_cli.specs.Answers.{Answers, AsksWithin, CannotRead, CannotReadAt, CheckReadsTo, Defines, FollowReadsTo, IfReadFault, IsCompleteFor, ReadsTo, RefusedReadsTo, is_read_fault, refusal}
+use Rattle.nfer_cli.specs.Calls.{CarriesOut}
+use Rattle.nfer_cli.specs.Words.{Asked, Check, Follow, file_words, specification_words, trace_word, Options}
+use Rattle.nfer_cli.specs.inner.Ended.{AsksUnlessWanted, FollowsFile, MayAskFor, Prints}
+use Rattle.nfer_cli.specs.inner.Failures.{concluded, ends_unread, failed_status, is_unread, session_status}
+use Rattle.nfer_cli.specs.inner.Specified.{Accepts, AreRefused, AsksOne, EndsBehind, SpecificationFails}
+use Rattle.nfer_cli.specs.declared.fault.Failure.{Failure}
+use Rattle.nfer_cli.specs.declared.fault.Failure.TheVariants as failure
+use Rattle.nfer_cli.specs.declared.session_end.SessionEnd.{SessionEnd}
+use Rattle.nfer_cli.specs.declared.session_end.SessionEnd.TheVariants as session
+use Rattle.nfer_cli.specs.declared.status.Status.{Status}
+use Rattle.nfer_cli.specs.declared.status.Status.TheVariants as status
+use Rattle.nfer_cli.proofs.AnswerLemmas.{answers_checked, answers_followed}
+use Rattle.nfer_cli.proofs.AskedFileLemmas.{asks_before_trace, asks_with_trace, cannot_before_trace, cannot_trace}
+use Rattle.nfer_cli.proofs.ExistenceLemmas.{AreSpecified}
+use Rattle.nfer_cli.proofs.ReadingEndLemmas.{reads_followed}
+use Rattle.nfer_cli.proofs.RefusalLemmas.{answers_unchecked, answers_unfollowed}
+use Rattle.nfer_cli.proofs.ShortReadLemmas.{cannot_since, told_before}
+use Rattle.nfer_cli.proofs.SpecificationEndLemmas.{not_accepted}
+
+-- an answer without a fault is a defined one, or want of memory
+complete_by : (question : Option Asked) (files : Files) (s : Status) (rest before now : Option (List ℕ)) → (IfReadFault s (λ place. ⊥)) → (s ≡ status.WriteFault → ⊥) → Answers question files s rest before now → IsCompleteFor (Defines question files) s
+complete_by question files status.NoMemory rest before now read write a = tt
+complete_by question files status.WriteFault rest before now read write a = absurd (write refl)
+complete_by question files (status.ReadFault place) rest before now read write a = absurd read
+complete_by question files other rest before now read write a = (a.reads, a.answer, a.defined, a.ends)
+
+no_read_fault : (s : Status) (names : List (List ℕ)) (before now : ShelfTells) → ¬ Rose before.faults now.faults → IfReadFault s (λ place. CannotReadAt names place before now) → IfReadFault s (λ place. ⊥)
+no_read_fault (status.ReadFault place) names before now calm fault = calm fault.cannot.rose
+no_read_fault other names before now calm fault = tt
+
+-- with no fault of the shelf or of the output a call completes
+completes : (question : Option Asked) (s : Status) (names : List (List ℕ)) (shelf now : ShelfTells) (out out_now : SinkTells) → IfSome shelf.files (λ files. Answers question files s now.rest out.taken out_now.taken)
+    → IfReadFault s (λ place. CannotReadAt names place shelf now) → (s ≡ status.WriteFault → Rose out.faults out_now.faults) → ¬ Rose shelf.faults now.faults → ¬ Rose out.faults out_now.faults
+    → IfSome shelf.files (λ files. IsCompleteFor (Defines question files) s)
+completes question s names shelf now out out_now answers read write calm out_calm = by shelf.files answers
+  where
+    by : (told : Option Files) → IfSome told (λ files. Answers question files s now.rest out.taken out_now.taken) → IfSome told (λ files. IsCompleteFor (Defines question files) s)
+    by None a = tt
+    by (Some files) a = complete_by question files s now.rest out.taken out_now.taken (no_read_fault s names shelf now calm read) (λ is. out_calm (write is)) a
+
+-- what is asked was carried out
+carried : (question : Asked) (s : Status) (shelf now : ShelfTells) (out out_now : SinkTells) → (s ≡ status.Usage → ⊥)
+    → IfSome shelf.files (λ files. Answers (Some question) files s now.rest out.taken out_now.taken)
+    → IfSome shelf.files (λ files. ReadsTo (Some question) s files shelf.asked shelf.rest now.asked now.rest)
+    → AsksOne (file_words (Some question)) shelf now → IfReadFault s (λ place. CannotReadAt (file_words (Some question)) place shelf now)
+    → now.failed ≡ is_read_fault s → (s ≡ status.WriteFault → Rose out.faults out_now.faults)
+    → IfReadFault s (λ place. place < length (specification_words (Some question)) → out_now.taken ≡ out.taken)
+    → CarriesOut (Some question) s shelf now out out_now
+carried question s shelf now out out_now never answer reads asks read failed write unread = record {
+  usage = (λ is. absurd (never is), λ none. cc);
+  answer = answer;
+  reads = reads;
+  asks = asks;
+  read_fault = read;
+  failed = failed;
+  write_fault = write;
+  unread = unread;
+  completes = completes (Some question) s (file_words (Some question)) shelf now out out_now answer read write;
+  untouched = λ is. absurd (never is);
+}
+
+-- words that ask for nothing
+pub carried_usage : (question : Option Asked) (shelf : ShelfTells) (out : SinkTells) → question ≡ None → CarriesOut question status.Usage shelf shelf out out
+carried_usage question shelf out none = subst (λ (q : Option Asked). CarriesOut q status.Usage shelf shelf out out) (sym none) (record {
+  usage = (λ is. refl, λ is. refl);
+  answer = answer shelf.files;
+  reads = reads shelf.files;
+  asks = asks shelf.files;
+  read_fault = tt;
+  failed = tt;
+  write_fault = λ is. absurd cc;
+  unread = tt;
+  completes = λ calm out_calm. completes None status.Usage [] shelf shelf out out (answer shelf.files) tt (λ is. absurd cc) calm out_calm;
+  untouched = λ is. refl;
+})
+  where
+    answer : (told : Option Files) → IfSome told (λ files. Answers None files status.Usage shelf.rest out.taken out.taken)
+    answer None = tt
+    answer (Some files) = record { reads = 0; answer = refusal status.Usage; defined = (refl, refl); ends = refl; writes = Took-none out.taken }
+
+    reads : (told : Option Files) → IfSome told (λ files. (shelf.asked ≡ shelf.asked) × (shelf.rest ≡ shelf.rest))
+    reads None = tt
+    reads (Some files) = (refl, refl)
+
+    asks : (told : Option Files) → IfSome told (λ files. AsksWithin [] files shelf.asked shelf.asked)
+    asks None = tt
+    asks (Some files) = inl refl
+
+-- what holds whatever the files are
+always : (told : Option Files) (P : Files → Type 0) → ((files : Files) → P files) → IfSome told P
+always None P h = tt
+always (Some files) P h = h files
+
+each : (told : Option Files) (P Q : Files → Type 0) → ((files : Files) → P files → Q files) → IfSome told P → IfSome told Q
+each None P Q f h = tt
+each (Some files) P Q f h = f files h
+
+-- a failure is not usage
+never_usage : (why : Failure) → failed_status why ≡ status.Usage → ⊥
+never_usage (failure.Specification w) is = cc
+never_usage (failure.Trace w) is = cc
+never_usage (failure.Read place) is = cc
+never_usage failure.Write is = cc
+never_usage failure.NoMemory is = cc
+
+failed_read : (why : Failure) → is_read_fault (failed_status why) ≡ ends_unread {A = Compiled} (Err why)
+failed_read (failure.Specification w) = refl
+failed_read (failure.Trace w) = refl
+failed_read (failure.Read place) = refl
+failed_read failure.Write = refl
+failed_read failure.NoMemory = refl
+
+-- a specification that isn't compiled: nothing was written
+no_write : (names : List (List ℕ)) (root : Option (List ℕ)) (why : Failure) (shelf now : ShelfTells) (out out_now : SinkTells) → SpecificationFails names root why shelf now → failed_status why ≡ status.WriteFault → Rose out.faults out_now.faults
+no_write names root (failure.Specification w) shelf now out out_now fails is = absurd cc
+no_write names root (failure.Trace w) shelf now out out_now fails is = absurd fails
+no_write names root (failure.Read place) shelf now out out_now fails is = absurd cc
+no_write names root failure.Write shelf now out out_now fails is = absurd fails
+no_write names root failure.NoMemory shelf now out out_now fails is = absurd cc
+
+nothing_written : (why : Failure) (n : ℕ) (out : SinkTells) → IfReadFault (failed_status why) (λ place. place < n → out.taken ≡ out.taken)
+nothing_written (failure.Read place) n out = λ low. refl
+nothing_written (failure.Specification w) n out = tt
+nothing_written (failure.Trace w) n out = tt
+nothing_written failure.Write n out = tt
+nothing_written failure.NoMemory n out = tt
+
+check_stands : (names : List (List ℕ)) (root : Option (List ℕ)) (why : Failure) (shelf now : ShelfTells) → SpecificationFails names root why shelf now → IfSome shelf.files (λ files. CheckReadsTo names (failed_status why) files now.asked now.rest)
+check_stands names root (failure.Specification w) shelf now fails = each shelf.files (λ files. AreRefused files names root w now.asked now.rest) (λ files. RefusedReadsTo names w files now.asked now.rest) (λ files h. h.stands) fails
+check_stands names root (failure.Read place) shelf now fails = fails.stands
+check_stands names root failure.NoMemory shelf now fails = always shelf.files (λ files. Unit {0}) (λ files. tt)
+check_stands names root other shelf now fails = absurd fails
+
+check_fault : (names : List (List ℕ)) (root : Option (List ℕ)) (why : Failure) (shelf now : ShelfTells) → SpecificationFails names root why shelf now → IfReadFault (failed_status why) (λ place. CannotReadAt names place shelf now)
+check_fault names root (failure.Specification w) shelf now fails = tt
+check_fault names root (failure.Read place) shelf now fails = fails.cannot
+check_fault names root failure.NoMemory shelf now fails = tt
+check_fault names root other shelf now fails = absurd fails
+
+pub check_unspecified : AreSpecified → (names : List (List ℕ)) (options : Options) (why : Failure) (shelf now : ShelfTells) (out : SinkTells) → SpecificationFails names options.root why shelf now → now.failed ≡ ends_unread {A = Compiled} (Err why) → AsksOne names shelf now
+    → CarriesOut (Some (Check options names)) (failed_status why) shelf now out out
+check_unspecified specified names options why shelf now out fails failed asks =
+    carried (Check options names) (failed_status why) shelf now out out (never_usage why) (answers_unchecked specified shelf.files names options why now.rest out.taken (not_accepted names options.root why shelf now fails))
+    (check_stands names options.root why shelf now fails) asks (check_fault names options.root why shelf now fails) (failed ∙ sym (failed_read why)) (no_write names options.root why shelf now out out fails) (nothing_written why (length names) out)
+
+follow_stands : (names : List (List ℕ)) (trace : List ℕ) (root : Option (List ℕ)) (why : Failure) (shelf now : ShelfTells) → SpecificationFails names root why shelf now → IfSome shelf.files (λ files. FollowReadsTo names trace (failed_status why) files now.asked now.rest)
+follow_stands names trace root (failure.Specification w) shelf now fails = each shelf.files (λ files. AreRefused files names root w now.asked now.rest) (λ files. RefusedReadsTo names w files now.asked now.rest) (λ files h. h.stands) fails
+follow_stands names trace root (failure.Read place) shelf now fails = each shelf.files _ (λ files. FollowReadsTo names trace (status.ReadFault place) files now.asked now.rest) (λ files h. inl (fails.cannot.place_is, h)) fails.stands
+follow_stands names trace root failure.NoMemory shelf now fails = always shelf.files (λ files. Unit {0}) (λ files. tt)
+follow_stands names trace root other shelf now fails = absurd fails
+
+follow_fault : (names : List (List ℕ)) (trace : List ℕ) (root : Option (List ℕ)) (why : Failure) (shelf now : ShelfTells) → SpecificationFails names root why shelf now → IfReadFault (failed_status why) (λ place. CannotReadAt (names ++ trace ∷ []) place shelf now)
+follow_fault names trace root (failure.Specification w) shelf now fails = tt
+follow_fault names trace root (failure.Read place) shelf now fails = cannot_before_trace names trace place shelf now fails.cannot
+follow_fault names trace root failure.NoMemory shelf now fails = tt
+follow_fault names trace root other shelf now fails = absurd fails
+
+pub follow_unspecified : AreSpecified → (names : List (List ℕ)) (options : Options) (why : Failure) (shelf now : ShelfTells) (out : SinkTells) → SpecificationFails names options.root why shelf now → now.failed ≡ ends_unread {A = Compiled} (Err why) → AsksOne names shelf now
+    → CarriesOut (Some (Follow options names)) (failed_status why) shelf now out out
+follow_unspecified specified names options why shelf now out fails failed asks =
+    carried (Follow options names) (failed_status why) shelf now out out (never_usage why) (answers_unfollowed specified shelf.files names options why now.rest out.taken (not_accepted names options.root why shelf now fails))
+    (follow_stands names trace_word options.root why shelf now fails) (asks_before_trace names trace_word shelf now asks) (follow_fault names trace_word options.root why shelf now fails)
+    (failed ∙ sym (failed_read why)) (no_write names options.root why shelf now out out fails) (nothing_written why (length names) out)
+
+-- the rules of a specification were printed, or writing them failed
+pub check_printed : (names : List (List ℕ)) (options : Options) (made : Compiled) (result : Result (Unit {0}) Failure) (shelf now : ShelfTells) (out out_now : SinkTells) → Accepts shelf names options.root made → EndsBehind names shelf now → now.failed ≡ false → AsksOne names shelf now
+    → Prints made result out out_now → CarriesOut (Some (Check options names)) (concluded result) shelf now out out_now
+check_printed names options made (Ok done) shelf now out out_now accepts ends failed asks prints =
+    carried (Check options names) status.Done shelf now out out_now (λ is. cc) (answers_checked names options made (Ok done) shelf now out out_now accepts prints) ends asks tt failed (λ is. absurd cc) tt
+check_printed names options made (Err failure.Write) shelf now out out_now accepts ends failed asks prints =
+    carried (Check options names) status.WriteFault shelf now out out_now (λ is. cc) (answers_checked names options made (Err failure.Write) shelf now out out_now accepts prints) ends asks tt failed (λ is. prints.1) tt
+check_printed names options made (Err failure.NoMemory) shelf now out out_now accepts ends failed asks prints =
+    carried (Check options names) status.NoMemory shelf now out out_now (λ is. cc) (answers_checked names options made (Err failure.NoMemory) shelf now out out_now accepts prints) (always shelf.files (λ files. Unit {0}) (λ files. tt)) asks tt failed (λ is. absurd cc) tt
+check_printed names options made (Err other) shelf now out out_now accepts ends failed asks prints = absurd prints
+
+-- the ends of a session are no usage, and its faults have their causes
+session_never_usage : (place : ℕ) (result : Result (Unit {0}) SessionEnd) → session_status place result ≡ status.Usage → ⊥
+session_never_usage place (Ok done) is = cc
+session_never_usage place (Err (session.Trace w)) is = cc
+session_never_usage place (Err session.ReadFault) is = cc
+session_never_usage place (Err session.WriteFault) is = cc
+session_never_usage place (Err session.NoMemory) is = cc
+
+session_failed : (place : ℕ) (result : Result (Unit {0}) SessionEnd) → is_read_fault (session_status place result) ≡ is_unread result
+session_failed place (Ok done) = refl
+session_failed place (Err (session.Trace w)) = refl
+session_failed place (Err session.ReadFault) = refl
+session_failed place (Err session.WriteFault) = refl
+session_failed place (Err session.NoMemory) = refl
+
+session_write : (place : ℕ) (result : Result (Unit {0}) SessionEnd) (P : Type 0) → (result ≡ Err session.WriteFault → P) → session_status place result ≡ status.WriteFault → P
+session_write place (Ok done) P h is = absurd cc
+session_write place (Err (session.Trace w)) P h is = absurd cc
+session_write place (Err session.ReadFault) P h is = absurd cc
+session_write place (Err session.WriteFault) P h is = h refl
+session_write place (Err session.NoMemory) P h is = absurd cc
+
+session_read : (place : ℕ) (result : Result (Unit {0}) SessionEnd) (P : ℕ → Type 0) → (result ≡ Err session.ReadFault → P place) → IfReadFault (session_status place result) P
+session_read place (Ok done) P h = tt
+session_read place (Err (session.Trace w)) P h = tt
+session_read place (Err session.ReadFault) P h = h refl
+session_read place (Err session.WriteFault) P h = tt
+session_read place (Err session.NoMemory) P h = tt
+
+-- a trace was followed, which is the file behind those of a specification
+pub followed_carries : (names : List (List ℕ)) (options : Options) (made : Compiled) (place : ℕ) (result : Result (Unit {0}) SessionEnd) (shelf middle now : ShelfTells) (out out_now : SinkTells) → middle.files ≡ shelf.files → place ≡ length names
+    → shelf.faults ≤ middle.faults → middle.failed ≡ false → Accepts shelf names options.root made → AsksOne names shelf middle → FollowsFile made.plan options.full trace_word result middle now out out_now
+    → MayAskFor trace_word middle now → AsksUnlessWanted trace_word result middle now → (result ≡ Err session.ReadFault → CannotRead trace_word middle now)
+    → (middle.failed ≡ false → now.failed ≡ is_unread result) → (result ≡ Err session.WriteFault → Rose out.faults out_now.faults)
+    → CarriesOut (Some (Follow options names)) (session_status place result) shelf now out out_now
+followed_carries names options made place result shelf middle now out out_now same count later calm accepts asks follows may_ask asked cannot failed write =
+    carried (Follow options names) (session_status place result) shelf now out out_now (session_never_usage place result)
+    (answers_followed names options made place result shelf middle now out out_now same count accepts follows)
+    (told_before shelf.files middle.files _ same (reads_followed names trace_word made.plan options.full place result middle now out out_now count asked follows))
+    (asks_with_trace names trace_word shelf middle now same asks may_ask)
+    (session_read place result (λ at. CannotReadAt (names ++ trace_word ∷ []) at shelf now) (λ is. cannot_trace names trace_word place shelf now count (cannot_since trace_word shelf middle now same later (cannot is))))
+    (failed calm ∙ sym (session_failed place result)) (session_write place result (Rose out.faults out_now.faults) write)
+    (session_read place result (λ at. at < length names → out_now.taken ≡ out.taken) (λ is low. absurd (omega (arith, low, count))))
