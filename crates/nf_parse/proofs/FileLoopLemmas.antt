@@ -5,15 +5,15 @@ use Rattle.std.proofs.lemmas.List.{append-nil}
 use Rattle.nf_core.specs.declared.trees.Expr.{Expr}
 use Rattle.nf_core.specs.declared.trees.Rule.{Rule}
 use Rattle.nf_core.specs.declared.trees.Module.{Module}
-use Rattle.nf_parse.specs.declared.fault.Fault.{Fault}
-use Rattle.nf_parse.specs.declared.symbol.Sym.{Sym}
+use Rattle.nf_grammar.specs.State.{next, next_of}
+use Rattle.nf_grammar.specs.declared.fault.Fault.{Fault}
+use Rattle.nf_grammar.specs.inner.Parsers.{bind, and_then, done, in_list, choose, repeated_from, repeated}
+use Rattle.nf_grammar.proofs.Public.ReaderLemmas.{IsShorter}
 use Rattle.nf_parse.specs.declared.symbol.Sym.TheVariants as kind
-use Rattle.nf_parse.specs.State.{Word, State, next, next_of}
+use Rattle.nf_parse.specs.State.{Word, State}
 use Rattle.nf_parse.specs.Grammar.{Item, loose, named, unnamed, in_front, modules_of}
-use Rattle.nf_parse.specs.inner.Parsers.{Outcome, Parser, bind, and_then, done, token, after}
-use Rattle.nf_parse.specs.inner.Parts.{in_list, choose, optional, repeated_from, repeated}
+use Rattle.nf_parse.specs.inner.Parsers.{Outcome, Parser, is_kind, token, after, optional}
 use Rattle.nf_parse.specs.inner.RuleReading.{is_ident, imports, rule, rules, module_word, item, file, part}
-use Rattle.nf_parse.proofs.ExactPartLemmas.{IsShorter}
 use Rattle.nf_parse.proofs.OutcomeLemmas.{ok_value, fault_read, read_fault, same_fault}
 use Rattle.nf_parse.proofs.PartListLemmas.{found_before, none_before, turn_read, turn_stop, turn_end, no_words}
 
@@ -100,7 +100,7 @@ module _ (p : Parser Expr) (short : IsShorter (rule p)) where
   unfolding module_word
   module_named = then_giving (token kind.Module) _ (λ x. Unit) HasName (any_giving (token kind.Module)) (λ b u. then_giving (token kind.Ident) _ (λ x. Unit) HasName (any_giving (token kind.Ident))
       (λ name u. then_giving (token kind.OpenBrace) _ (λ x. Unit) HasName (any_giving (token kind.OpenBrace)) (λ b u. then_giving _ (λ m. after kind.CloseBrace (done m)) HasName HasName
-      (then_giving (optional kind.Import imports) (λ found. and_then (rules p) (λ rs. done (module_of name found rs))) (λ x. Unit) HasName (any_giving (optional kind.Import imports)) (λ found u.
+      (then_giving (optional (is_kind kind.Import) imports) (λ found. and_then (rules p) (λ rs. done (module_of name found rs))) (λ x. Unit) HasName (any_giving (optional (is_kind kind.Import) imports)) (λ found u.
       then_giving (rules p) (λ rs. done (module_of name found rs)) (λ x. Unit) HasName (any_giving (rules p)) (λ rs u. done_giving (module_of name found rs) HasName (record { name = name; is = refl }))))
       (λ m h. then_giving (token kind.CloseBrace) (λ b. done m) (λ x. Unit) HasName (any_giving (token kind.CloseBrace)) (λ b u. done_giving m HasName h)))))
 
@@ -108,7 +108,7 @@ module _ (p : Parser Expr) (short : IsShorter (rule p)) where
   items turns s = repeated_from is_some (item p) turns s
 
   -- an item by its first word
-  ident_some : (n : Option Sym) → is_ident n ≡ true → is_some n ≡ true
+  ident_some : (n : Option Word) → is_ident n ≡ true → is_some n ≡ true
   ident_some None e = absurd (cc)
   ident_some (Some k) e = refl
 

@@ -14,11 +14,13 @@ use Rattle.nf_parse.specs.declared.level.Level.TheVariants as levels
 use Rattle.nf_parse.specs.declared.symbol.Sym.{Sym}
 use Rattle.nf_parse.specs.declared.symbol.Sym.TheVariants as kind
 use Rattle.nf_parse.specs.State.{State}
-use Rattle.nf_parse.specs.Combinators.{Relation, Operator, Chain, Single, one, more, alone, pair}
 use Rattle.nf_parse.specs.Grammar as grammar
-use Rattle.nf_parse.specs.Grammar.{op_at, Primary, Unary, Product, Sum, Comparison, Conjunction, Expression, Paren}
+use Rattle.nf_parse.specs.Grammar.{Production, op_at}
 use Rattle.nf_parse.specs.inner.Reading.{expression, paren}
-use Rattle.nf_parse.proofs.ExactExpressionLemmas.{expression_exact}
+use Rattle.nf_parse.proofs.ExpressionReaderLemmas.{expression_reader, paren_reader}
+use Rattle.nf_parse.proofs.Public.WordLemmas.{Operator}
+use Rattle.nf_parse.proofs.ExpressionWordLemmas as words
+use Rattle.nf_parse.proofs.ExpressionWordLemmas.{IsChain, one, more, chain_cases, IsSingle, alone, pair, single_cases, IsUnary, unary_cases, IsPrimary, primary_cases}
 
 -- the tree of an expression, by its parts
 pub record IsByParts : Type 0 where
@@ -84,24 +86,24 @@ level_number levels.Product kind.Percent o h = let e : binary.Rem ≡ o = cc in 
 level_number l k o h = absurd (cc)
 
 module _ (parts : IsByParts) (depth : ℕ) where
-  -- what a relation gives fits
-  pub record Gives (wanted : ℕ) (R : Relation Expr) : Type 0 where
-    pub fits : (s t : State) (x : Expr) → R s x t → (used : ℕ) × (s.operators ≡ used + t.operators) × IsFitting depth wanted used (tree x)
+  -- what a production gives fits
+  pub record Gives (wanted : ℕ) (R : Production Expr) : Type 0 where
+    pub fits : (s t : State) (x : Expr) → R.word s x t → (used : ℕ) × (s.room ≡ used + t.room) × IsFitting depth wanted used (tree x)
 
-  looser : (m n : ℕ) (R : Relation Expr) → m ≤ n → Gives n R → Gives m R
+  looser : (m n : ℕ) (R : Production Expr) → m ≤ n → Gives n R → Gives m R
   looser m n R l g = record { fits = λ s t x r. let f = g.fits s t x r in (f.0, f.1, record { used = f.2.used; low = f.2.low; strict = λ e. f.2.strict (omega (arith, e, l)) }) }
 
-  module _ (l : Level) (R : Relation Expr) (g : Gives (suc (number_of l)) R) where
+  module _ (l : Level) (R : Production Expr) (g : Gives (suc (number_of l)) R) where
     -- two operands that fit
-    both : (s u t : State) (w v : State) (x y : Expr) (k : Sym) (o : BinOp) → op_at l k ≡ Some o → Operator k w v
-        → (m : ℕ) → s.operators ≡ m + w.operators → IsFitting depth (number_of l) m (tree x)
-        → (left_in_parens o (tree x) ≡ true → open_parens (tree x) < depth) → R v y t
-        → (used : ℕ) × (s.operators ≡ used + t.operators) × IsFitting depth (number_of l) used (tree (node.Bin o x y))
-    both s u t w v x y k o h q m e a p r =
+    both : (s t w v : State) (x y : Expr) (o : BinOp) → Operator l w o v
+        → (m : ℕ) → s.room ≡ m + w.room → IsFitting depth (number_of l) m (tree x)
+        → (left_in_parens o (tree x) ≡ true → open_parens (tree x) < depth) → R.word v y t
+        → (used : ℕ) × (s.room ≡ used + t.room) × IsFitting depth (number_of l) used (tree (node.Bin o x y))
+    both s t w v x y o q m e a p r =
         let b = g.fits v t y r in
-        let n = level_number l k o h in
+        let n = level_number l q.token.0 o q.gives in
         let c = bin_fits depth o (tree x) (tree y) m b.0 (subst (λ i. IsFitting depth i m (tree x)) (sym n) a) (subst (λ i. IsFitting depth (suc i) b.0 (tree y)) (sym n) b.2) p in
-        (suc (m + b.0), omega (arith, e, q.operators, b.1), subst (λ i. IsFitting depth i (suc (m + b.0)) (tree (node.Bin o x y))) n (subst (λ z. IsFitting depth (op_level o) (suc (m + b.0)) z) (sym (parts.binary o x y)) c))
+        (suc (m + b.0), omega (arith, e, q.room, b.1), subst (λ i. IsFitting depth i (suc (m + b.0)) (tree (node.Bin o x y))) n (subst (λ z. IsFitting depth (op_level o) (suc (m + b.0)) z) (sym (parts.binary o x y)) c))
 
     chain_left : (o : BinOp) (x : Expr) (m : ℕ) → op_level o ≡ number_of l → (number_of l ≡ 3 → ⊥) → IsFitting depth (number_of l) m (tree x) → left_in_parens o (tree x) ≡ true → open_parens (tree x) < depth
     chain_left o x m n z a h = ⊎_elim
@@ -116,23 +118,23 @@ module _ (parts : IsByParts) (depth : ℕ) where
         a.strict (omega (arith, eqb-true (level (tree x)) 3 p.0, eqb-true (op_level o) 3 p.1, n)))
         (or_cases (prelude.nat_lt (level (tree x)) (op_level o)) _ h)
 
-    chain_fits : (number_of l ≡ 3 → ⊥) → (s t : State) (x : Expr) → Chain (op_at l) R s x t → (used : ℕ) × (s.operators ≡ used + t.operators) × IsFitting depth (number_of l) used (tree x)
+    chain_fits : (number_of l ≡ 3 → ⊥) → (s t : State) (x : Expr) → IsChain l R s x t → (used : ℕ) × (s.room ≡ used + t.room) × IsFitting depth (number_of l) used (tree x)
     chain_fits z s t x (one r) = (looser (number_of l) (suc (number_of l)) R (omega arith) g).fits s t x r
-    chain_fits z s t x (more {t = w} {u = v} {l = a} {r = b} {k} {o} c h q r) =
+    chain_fits z s t x (more {left = a} {right = b} {o} {t = w} {u = v} c q r) =
         let f = chain_fits z s w a c in
-        both s s t w v a b k o h q f.0 f.1 f.2 (chain_left o a f.0 (level_number l k o h) z f.2) r
+        both s t w v a b o q f.0 f.1 f.2 (chain_left o a f.0 (level_number l q.token.0 o q.gives) z f.2) r
 
-    chain_gives : (number_of l ≡ 3 → ⊥) → Gives (number_of l) (Chain (op_at l) R)
-    chain_gives z = record { fits = chain_fits z }
+    chain_gives : (number_of l ≡ 3 → ⊥) → Gives (number_of l) (grammar.chain l R)
+    chain_gives z = record { fits = λ s t x w. chain_fits z s t x (chain_cases l R s t x w) }
 
-    single_fits : (s t : State) (x : Expr) → Single (op_at l) R s x t → (used : ℕ) × (s.operators ≡ used + t.operators) × IsFitting depth (number_of l) used (tree x)
+    single_fits : (s t : State) (x : Expr) → IsSingle l R s x t → (used : ℕ) × (s.room ≡ used + t.room) × IsFitting depth (number_of l) used (tree x)
     single_fits s t x (alone r) = (looser (number_of l) (suc (number_of l)) R (omega arith) g).fits s t x r
-    single_fits s t x (pair {t = w} {u = v} {l = a} {r = b} {k} {o} c h q r) =
+    single_fits s t x (pair {left = a} {right = b} {o} {t = w} {u = v} c q r) =
         let f = g.fits s w a c in
-        both s s t w v a b k o h q f.0 f.1 (record { used = f.2.used; low = f.2.low; strict = λ e. f.2.strict (omega (arith, e)) }) (single_left o a f.0 (level_number l k o h) f.2) r
+        both s t w v a b o q f.0 f.1 (record { used = f.2.used; low = f.2.low; strict = λ e. f.2.strict (omega (arith, e)) }) (single_left o a f.0 (level_number l q.token.0 o q.gives) f.2) r
 
-    single_gives : Gives (number_of l) (Single (op_at l) R)
-    single_gives = record { fits = single_fits }
+    single_gives : Gives (number_of l) (grammar.single l R)
+    single_gives = record { fits = λ s t x w. single_fits s t x (single_cases l R s t x w) }
 
   -- signs
   sign_open : (a : Tree) (n : ℕ) → IsFitting depth 6 n a → opened (operand_in_parens a) (open_parens a) ≤ depth
@@ -146,10 +148,10 @@ module _ (parts : IsByParts) (depth : ℕ) where
   unfolding operators open_parens level
   not_fits a n f = record { used = omega (arith, f.used); low = sign_open a n f; strict = λ e. absurd (omega (arith, e)) }
 
-  unary_fits : (R : Relation Expr) → Gives 7 R → (s t : State) (x : Expr) → Unary R s x t → (used : ℕ) × (s.operators ≡ used + t.operators) × IsFitting depth 6 used (tree x)
-  unary_fits R g s t x (grammar.primary r) = (looser 6 7 R (omega arith) g).fits s t x r
-  unary_fits R g s t x (grammar.minus {t = u} {x = y} q r) = let f = unary_fits R g u t y r in (suc f.0, omega (arith, q.operators, f.1), subst (IsFitting depth 6 (suc f.0)) (sym (parts.minus y)) (minus_fits (tree y) f.0 f.2))
-  unary_fits R g s t x (grammar.bang {t = u} {x = y} q r) = let f = unary_fits R g u t y r in (suc f.0, omega (arith, q.operators, f.1), subst (IsFitting depth 6 (suc f.0)) (sym (parts.inverted y)) (not_fits (tree y) f.0 f.2))
+  unary_fits : (R : Production Expr) → Gives 7 R → (s t : State) (x : Expr) → IsUnary R s x t → (used : ℕ) × (s.room ≡ used + t.room) × IsFitting depth 6 used (tree x)
+  unary_fits R g s t x (words.plain r) = (looser 6 7 R (omega arith) g).fits s t x r
+  unary_fits R g s t x (words.minus {u} {x = y} q r) = let f = unary_fits R g u t y r in (suc f.0, omega (arith, q.room, f.1), subst (IsFitting depth 6 (suc f.0)) (sym (parts.minus y)) (minus_fits (tree y) f.0 f.2))
+  unary_fits R g s t x (words.bang {u} {x = y} q r) = let f = unary_fits R g u t y r in (suc f.0, omega (arith, q.room, f.1), subst (IsFitting depth 6 (suc f.0)) (sym (parts.inverted y)) (not_fits (tree y) f.0 f.2))
 
   -- operands
   truth_fits : (b : Bool) → IsFitting depth 7 0 (trees.Bool b)
@@ -176,52 +178,52 @@ module _ (parts : IsByParts) (depth : ℕ) where
   unfolding operators open_parens level
   key_fits label key = record { used = refl; low = omega arith; strict = λ e. absurd (omega (arith, e)) }
 
-  primary_fits : (P : Relation Expr) → Gives 7 P → (s t : State) (x : Expr) → Primary P s x t → (used : ℕ) × (s.operators ≡ used + t.operators) × IsFitting depth 7 used (tree x)
-  primary_fits P g s t x (grammar.number r) = (0, omega (arith, r.operators), subst (IsFitting depth 7 0) (sym (parts.number _)) (number_fits _))
-  primary_fits P g s t x (grammar.text r) = (0, omega (arith, r.operators), subst (IsFitting depth 7 0) (sym (parts.text _)) (text_fits _))
-  primary_fits P g s t x (grammar.yes r) = (0, omega (arith, r.operators), subst (IsFitting depth 7 0) (sym (parts.truth _)) (truth_fits _))
-  primary_fits P g s t x (grammar.no r) = (0, omega (arith, r.operators), subst (IsFitting depth 7 0) (sym (parts.truth _)) (truth_fits _))
-  primary_fits P g s t x (grammar.key a b c) = (0, omega (arith, a.operators, b.operators, c.operators), subst (IsFitting depth 7 0) (sym (parts.key _ _)) (key_fits _ _))
-  primary_fits P g s t x (grammar.start a b c) = (0, omega (arith, a.operators, b.operators, c.operators), subst (IsFitting depth 7 0) (sym (parts.start _)) (start_fits _))
-  primary_fits P g s t x (grammar.stop a b c) = (0, omega (arith, a.operators, b.operators, c.operators), subst (IsFitting depth 7 0) (sym (parts.stop _)) (stop_fits _))
-  primary_fits P g s t x (grammar.paren r) = g.fits s t x r
+  primary_fits : (P : Production Expr) → Gives 7 P → (s t : State) (x : Expr) → IsPrimary P s x t → (used : ℕ) × (s.room ≡ used + t.room) × IsFitting depth 7 used (tree x)
+  primary_fits P g s t x (words.number r) = (0, omega (arith, r.room), subst (IsFitting depth 7 0) (sym (parts.number _)) (number_fits _))
+  primary_fits P g s t x (words.text r) = (0, omega (arith, r.room), subst (IsFitting depth 7 0) (sym (parts.text _)) (text_fits _))
+  primary_fits P g s t x (words.yes r) = (0, omega (arith, r.room), subst (IsFitting depth 7 0) (sym (parts.truth _)) (truth_fits _))
+  primary_fits P g s t x (words.no r) = (0, omega (arith, r.room), subst (IsFitting depth 7 0) (sym (parts.truth _)) (truth_fits _))
+  primary_fits P g s t x (words.key a b c) = (0, omega (arith, a.room, b.room, c.room), subst (IsFitting depth 7 0) (sym (parts.key _ _)) (key_fits _ _))
+  primary_fits P g s t x (words.start a b c) = (0, omega (arith, a.room, b.room, c.room), subst (IsFitting depth 7 0) (sym (parts.start _)) (start_fits _))
+  primary_fits P g s t x (words.stop a b c) = (0, omega (arith, a.room, b.room, c.room), subst (IsFitting depth 7 0) (sym (parts.stop _)) (stop_fits _))
+  primary_fits P g s t x (words.paren r) = g.fits s t x r
 
-  tower_gives : (P : Relation Expr) → Gives 7 P → Gives 1 (Expression P)
+  tower_gives : (P : Production Expr) → Gives 7 P → Gives 1 (grammar.expression P)
   tower_gives P g =
-      let p : Gives 7 (Primary P) = record { fits = primary_fits P g } in
-      let u : Gives 6 (Unary (Primary P)) = record { fits = unary_fits (Primary P) p } in
-      let a = chain_gives levels.Product (Unary (Primary P)) u (λ e. omega (arith, e)) in
-      let b = chain_gives levels.Sum (Product P) a (λ e. omega (arith, e)) in
-      let c = single_gives levels.Compare (Sum P) b in
-      let d = chain_gives levels.And (Comparison P) c (λ e. omega (arith, e)) in
-      chain_gives levels.Or (Conjunction P) d (λ e. omega (arith, e))
+      let p : Gives 7 (grammar.primary P) = record { fits = λ s t x w. primary_fits P g s t x (primary_cases P s t x w) } in
+      let u : Gives 6 (grammar.unary (grammar.primary P)) = record { fits = λ s t x w. unary_fits (grammar.primary P) p s t x (unary_cases (grammar.primary P) s t x w) } in
+      let a = chain_gives levels.Product (grammar.unary (grammar.primary P)) u (λ e. omega (arith, e)) in
+      let b = chain_gives levels.Sum (grammar.product P) a (λ e. omega (arith, e)) in
+      let c = single_gives levels.Compare (grammar.sum P) b in
+      let d = chain_gives levels.And (grammar.comparison P) c (λ e. omega (arith, e)) in
+      chain_gives levels.Or (grammar.conjunction P) d (λ e. omega (arith, e))
 
   -- parentheses, in which the expression is one less deep
-  inner_fits : (Gives 1 (Expression (Paren depth))) → (s t : State) (x : Expr) → Paren (suc depth) s x t → (used : ℕ) × (s.operators ≡ used + t.operators) × IsFitting (suc depth) 7 used (tree x)
-  unfolding Paren
+  inner_fits : (Gives 1 (grammar.expression (grammar.paren depth))) → (s t : State) (x : Expr) → (grammar.paren (suc depth)).word s x t → (used : ℕ) × (s.room ≡ used + t.room) × IsFitting (suc depth) 7 used (tree x)
+  unfolding grammar.paren
   inner_fits g s t x r =
       let inside = r.rest in
       let closed = inside.rest in
       let f = g.fits r.middle inside.middle inside.given inside.first in
-      let y : inside.given ≡ x = sym closed.rest.is in
-      let h : t.operators ≡ inside.middle.operators = ap (λ (u : State). u.operators) closed.rest.stays ∙ closed.first.operators in (
+      let y : inside.given ≡ x = sym closed.rest.gives in
+      let h : t.room ≡ inside.middle.room = ap (λ (u : State). u.room) closed.rest.stays ∙ closed.first.room in (
         f.0,
-        omega (arith, f.1, h, r.first.operators),
+        omega (arith, f.1, h, r.first.room),
         subst (λ z. IsFitting (suc depth) 7 f.0 (tree z)) y
             (record { used = f.2.used; low = omega (arith, f.2.low); strict = λ e. omega (arith, f.2.low) }),
       )
 
 module _ (parts : IsByParts) where
-  paren_gives : (depth : ℕ) → Gives parts depth 7 (Paren depth)
-  unfolding Paren
-  paren_gives zero = record { fits = λ s t x r. elim r [ ] }
-  paren_gives (suc depth) = record { fits = inner_fits parts depth (tower_gives parts depth (Paren depth) (paren_gives depth)) }
+  paren_gives : (depth : ℕ) → Gives parts depth 7 (grammar.paren depth)
+  unfolding grammar.paren
+  paren_gives zero = record { fits = λ s t x r. absurd r }
+  paren_gives (suc depth) = record { fits = inner_fits parts depth (tower_gives parts depth (grammar.paren depth) (paren_gives depth)) }
 
-  pub expression_gives : (depth : ℕ) → Gives parts depth 1 (Expression (Paren depth))
-  expression_gives depth = tower_gives parts depth (Paren depth) (paren_gives depth)
+  pub expression_gives : (depth : ℕ) → Gives parts depth 1 (grammar.expression (grammar.paren depth))
+  expression_gives depth = tower_gives parts depth (grammar.paren depth) (paren_gives depth)
 
   -- what is read within the limits is within them
-  pub expression_limits : (s t : State) (x : Expr) → s.operators ≤ 256 → expression (paren 64) s ≡ Ok (x, t) → IsWithinLimits (tree x)
+  pub expression_limits : (s t : State) (x : Expr) → s.room ≤ 256 → expression (paren 64) s ≡ Ok (x, t) → IsWithinLimits (tree x)
   expression_limits s t x l e =
-      let f = (expression_gives 64).fits s t x ((expression_exact 64).sound s t x e) in
+      let f = (expression_gives 64).fits s t x ((expression_reader (paren_reader 64)).sound s t x e) in
       record { few_operators = omega (arith, f.1, f.2.used); few_parens = f.2.low }

@@ -1,16 +1,13 @@
--- Outcomes: what was read, or a fault.
+-- Calls that stop where their parsers do, and values of outcomes.
 use Rattle.std.proofs.Common.{◌≡◌, refl, ap, Ok, Err}
-use Rattle.nf_parse.specs.declared.fault.Fault.{Fault}
-use Rattle.nf_parse.specs.declared.fault.Halt.{Halt}
-use Rattle.nf_parse.specs.declared.fault.Halt.TheVariants as halt
+use Rattle.nf_grammar.specs.declared.fault.Fault.{Fault}
+use Rattle.nf_grammar.specs.declared.fault.Halt.{Halt}
+use Rattle.nf_grammar.specs.declared.fault.Halt.TheVariants as halt
+use Rattle.nf_grammar.specs.inner.Parsers.{Reads}
+use Rattle.nf_grammar.proofs.Public.ReaderLemmas.{ok_is}
 use Rattle.nf_parse.specs.State.{State}
-use Rattle.nf_parse.specs.inner.Parsers.{Outcome, Reads}
+use Rattle.nf_parse.specs.inner.Parsers.{Outcome}
 
--- two outcomes that read are one
-pub ok_same : {A : Type 0} (a b : A × State) (o : Outcome A) → o ≡ Ok a → o ≡ Ok b → a ≡ b
-ok_same a b o p q = cc
-
--- an outcome is read or a fault
 abbrev pub read_as : {A : Type 0} → A → State → Outcome A
 read_as x s = Ok (x, s)
 
@@ -19,7 +16,7 @@ stopped A f = Err f
 
 pub ok_value : {A : Type 0} (x y : A) (s t : State) → read_as x s ≡ Ok (y, t) → (x ≡ y) × (s ≡ t)
 ok_value {A} x y s t e =
-    let r = ok_same (x, s) (y, t) (Ok (x, s)) refl e in
+    let r = ok_is (x, s) (y, t) (Ok (x, s)) refl e in
     (ap (λ (read : A × State). read.0) r, ap (λ (read : A × State). read.1) r)
 
 pub fault_read : (A : Type 0) (f : Fault) (x : A) (t : State) → stopped A f ≡ Ok (x, t) → ⊥

@@ -2,10 +2,11 @@
 use Rattle.std.proofs.Common.{◌≡◌, ℕ, zero, suc, ◌<◌, ◌≤◌, Bool, true, false, List, [], ◌∷◌, ◌++◌, length, refl, sym, ap, ◌∙◌, arith, append_assoc, Option, None, Ok, Err}
 use Rattle.std.proofs.lemmas.List.{append-nil}
 use Rattle.nf_parse.specs.declared.symbol.Sym.{Sym}
-use Rattle.nf_parse.specs.declared.fault.Fault.{Fault}
-use Rattle.nf_parse.specs.State.{Word, State, next, next_of}
-use Rattle.nf_parse.specs.inner.Parsers.{Outcome, Parser, bind, is_sym, IsWithin}
-use Rattle.nf_parse.specs.inner.Parts.{in_list, repeated_from, repeated, next_part, separated}
+use Rattle.nf_grammar.specs.State.{next, next_of}
+use Rattle.nf_grammar.specs.declared.fault.Fault.{Fault}
+use Rattle.nf_grammar.specs.inner.Parsers.{bind, and_then, done, in_list, repeated_from, repeated}
+use Rattle.nf_parse.specs.State.{Word, State}
+use Rattle.nf_parse.specs.inner.Parsers.{Outcome, Parser, is_kind, after, separated, IsWithin}
 
 -- items that were found before those of an outcome
 abbrev pub found_before : {A : Type 0} → List A → Outcome (List A) → Outcome (List A)
@@ -13,7 +14,7 @@ found_before found (Ok read) = Ok (found ++ read.0, read.1)
 found_before found (Err f) = Err f
 
 -- a list of parts of which some were found: reading on from here gives the whole outcome
-pub record IsListAt {A : Type 0} (test : Option Sym → Bool) (p : Parser A) (whole : Outcome (List A)) (found : List A) (now : State) : Type 0 where
+pub record IsListAt {A : Type 0} (test : Option Word → Bool) (p : Parser A) (whole : Outcome (List A)) (found : List A) (now : State) : Type 0 where
   pub turns : ℕ
   pub enough : length now.words ≤ turns
   pub goes_on : found_before found (repeated_from test p turns now) ≡ whole
@@ -30,7 +31,7 @@ pub one_alone : {A : Type 0} (x : A) (o : Outcome (List A)) → found_before (x 
 one_alone x (Ok read) = refl
 one_alone x (Err f) = refl
 
-module _ {A : Type 0} (test : Option Sym → Bool) (p : Parser A) where
+module _ {A : Type 0} (test : Option Word → Bool) (p : Parser A) where
   pub list_start : (s : State) → IsListAt test p (repeated test p s) [] s
   unfolding repeated
   list_start s = record { turns = length s.words; enough = omega arith; goes_on = none_before (repeated_from test p (length s.words) s) }
@@ -77,22 +78,22 @@ module _ {A : Type 0} (test : Option Sym → Bool) (p : Parser A) where
   pub list_ends : (whole : Outcome (List A)) (found : List A) (s : State) → IsListAt test p whole found s → test (next s) ≡ false → whole ≡ Ok (found, s)
   list_ends whole found s at h = sym at.goes_on ∙ ap (found_before found) (turn_end at.turns s h) ∙ ap (λ xs. Ok (xs, s)) (append-nil found)
 
--- the words that begin with a separator
-abbrev pub is_at_word : Sym → Option Sym → Bool
-is_at_word separator n = is_sym n separator
+-- an item in front of those that are read behind it
+listed : {A : Type 0} (x : A) (o : Outcome (List A)) → bind o (λ xs. done (x ∷ xs)) ≡ in_list x o
+listed x (Ok read) = refl
+listed x (Err f) = refl
 
 module _ {A : Type 0} (separator : Sym) (p : Parser A) where
-  pub separated_start : (s t : State) (x : A) → p s ≡ Ok (x, t) → IsListAt (λ n. is_sym n separator) (next_part separator p) (separated separator p s) (x ∷ []) t
-  unfolding separated repeated
+  pub separated_start : (s t : State) (x : A) → p s ≡ Ok (x, t) → IsListAt (is_kind separator) (after separator p) (separated separator p s) (x ∷ []) t
+  unfolding repeated
   separated_start s t x e = record {
     turns = length t.words;
     enough = omega arith;
-    goes_on = one_alone x (repeated_from (λ n. is_sym n separator) (next_part separator p) (length t.words) t) ∙ sym (ap (λ o. bind o (λ x s. in_list x (repeated (λ n. is_sym n separator) (next_part separator p) s))) e);
+    goes_on = one_alone x (repeated_from (is_kind separator) (after separator p) (length t.words) t) ∙ sym (listed x (repeated_from (is_kind separator) (after separator p) (length t.words) t)) ∙ sym (ap (λ o. bind o (λ x. and_then (repeated (is_kind separator) (after separator p)) (λ xs. done (x ∷ xs)))) e);
   }
 
   pub separated_stops : (s : State) (f : Fault) → p s ≡ Err f → separated separator p s ≡ Err f
-  unfolding separated
-  separated_stops s f e = ap (λ o. bind o (λ x s. in_list x (repeated (λ n. is_sym n separator) (next_part separator p) s))) e
+  separated_stops s f e = ap (λ o. bind o (λ x. and_then (repeated (is_kind separator) (after separator p)) (λ xs. done (x ∷ xs)))) e
 
 pub within_more : (s t u : State) → IsWithin s t → IsWithin t u → IsWithin s u
-within_more s t u a b = record { words = omega arith; operators = omega arith }
+within_more s t u a b = record { words = omega arith; room = omega arith }

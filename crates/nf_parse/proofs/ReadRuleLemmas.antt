@@ -1,4 +1,4 @@
--- What readings of rules, modules and files leave, give and refuse.
+-- What readings of rules, modules and files leave and give.
 use Rattle.std.proofs.Common.{ℕ, List, [], Option, Some, None, unwrap_or}
 use Rattle.std.specs.Prelude.{◌∷◌, ◌++◌, map, option_to_list, is_some}
 use Rattle.std.specs.List.{All}
@@ -14,12 +14,11 @@ use Rattle.nf_core.specs.declared.trees.Module.{Module}
 use Rattle.nf_parse.specs.declared.symbol.Sym.{Sym}
 use Rattle.nf_parse.specs.declared.symbol.Sym.TheVariants as kind
 use Rattle.nf_parse.specs.State.{Word}
-use Rattle.nf_parse.specs.Grammar.{op_of, xop_of, atom_of, Item, loose, named, in_front, unnamed, modules_of}
-use Rattle.nf_parse.specs.inner.Parsers.{Parser, and_then, done, token, after, enclosed}
-use Rattle.nf_parse.specs.inner.Parts.{optional}
-use Rattle.nf_parse.specs.inner.RuleReading.{atom, pair, exclusive, is_op, ends_body, rule_body, imports, is_ident, clause, entry, entries, rule, rules, module_word, item, file}
-use Rattle.nf_parse.proofs.ExactPartLemmas.{IsShorter}
-use Rattle.nf_parse.proofs.ReadPartLemmas.{OfSome, IsReading, IsReadingAlone, token_reading, token_shorter, one_of_reading, done_reading, looser, then_reading, then_shorter, after_reading, after_shorter, choose_reading, choose_shorter, optional_reading, repeated_reading, separated_reading, whole_reading}
+use Rattle.nf_grammar.specs.inner.Parsers.{and_then, done}
+use Rattle.nf_parse.specs.Grammar.{atom_of, Item, loose, named, in_front, unnamed, modules_of}
+use Rattle.nf_parse.specs.inner.Parsers.{Parser, is_kind, token, after, enclosed, optional}
+use Rattle.nf_parse.specs.inner.RuleReading.{op_of_word, xop_of_word, atom, pair, exclusive, is_op, ends_body, rule_body, imports, is_ident, clause, entry, entries, rule, rules, module_word, item, file}
+use Rattle.nf_parse.proofs.ReadPartLemmas.{OfSome, IsReading, IsReadingAlone, token_reading, table_reading, done_reading, looser, then_reading, after_reading, choose_reading, optional_reading, repeated_reading, separated_reading, alone_reading}
 
 -- names and expressions as they are wanted
 module _ (IsName : List ℕ → Type 0) (IsWrittenExpr : Expr → Type 0) where
@@ -72,116 +71,100 @@ module _ (IsName : List ℕ → Type 0) (IsWrittenExpr : Expr → Type 0) where
     }
 
   -- where an identifier fits, it is a name
-  module _ (depth : ℕ) (fits : Word → Type 0) (names : (bytes : List ℕ) → fits (kind.Ident, bytes) → IsName bytes) where
-    name_reading : IsReading depth fits (token kind.Ident) IsName
-    name_reading = looser depth fits names (token_reading depth fits kind.Ident)
+  module _ (fits : Word → Type 0) (names : (bytes : List ℕ) → fits (kind.Ident, bytes) → IsName bytes) where
+    name_reading : IsReading fits (token kind.Ident) IsName
+    name_reading = looser fits names (token_reading fits kind.Ident)
 
     written_atom : (word : List ℕ) (name : Option (List ℕ)) → IsName word → OfSome IsName name → IsWrittenAtom (atom_of word name)
     written_atom word None h k = record { label = h; name = h }
     written_atom word (Some name) h k = record { label = h; name = k }
 
-    pub atom_reading : IsReading depth fits atom IsWrittenAtom
+    pub atom_reading : IsReading fits atom IsWrittenAtom
     unfolding atom
-    atom_reading = then_reading depth fits name_reading (λ word. then_reading depth fits (optional_reading depth fits kind.Colon (after_reading depth fits kind.Colon name_reading))
-        (λ name. done_reading depth fits (atom_of word name) (λ k h. written_atom word name h k)))
+    atom_reading = then_reading fits name_reading (λ word. then_reading fits (optional_reading fits (is_kind kind.Colon) (after_reading fits kind.Colon name_reading))
+        (λ name. done_reading fits (atom_of word name) (λ k h. written_atom word name h k)))
 
-    pair_reading : (first : Atom) → IsReading depth fits (pair first) (λ b. IsWrittenAtom first → IsWrittenBody b)
+    pair_reading : (first : Atom) → IsReading fits (pair first) (λ b. IsWrittenAtom first → IsWrittenBody b)
     unfolding pair
-    pair_reading first = then_reading depth fits (one_of_reading depth fits op_of) (λ o. then_reading depth fits atom_reading
-        (λ second. done_reading depth fits (bodies.Pair first o second) (λ k u h. All-cons IsWrittenAtom first (second ∷ []) h (All-cons IsWrittenAtom second [] k (All-nil IsWrittenAtom)))))
+    pair_reading first = then_reading fits (table_reading fits op_of_word) (λ o. then_reading fits atom_reading
+        (λ second. done_reading fits (bodies.Pair first o second) (λ k u h. All-cons IsWrittenAtom first (second ∷ []) h (All-cons IsWrittenAtom second [] k (All-nil IsWrittenAtom)))))
 
-    exclusive_reading : (first : Atom) → IsReading depth fits (exclusive first) (λ b. IsWrittenAtom first → IsWrittenBody b)
+    exclusive_reading : (first : Atom) → IsReading fits (exclusive first) (λ b. IsWrittenAtom first → IsWrittenBody b)
     unfolding exclusive
-    exclusive_reading first = after_reading depth fits kind.Unless (then_reading depth fits (one_of_reading depth fits xop_of) (λ x. then_reading depth fits atom_reading
-        (λ second. done_reading depth fits (bodies.Unless first x second) (λ k u h. All-cons IsWrittenAtom first (second ∷ []) h (All-cons IsWrittenAtom second [] k (All-nil IsWrittenAtom))))))
+    exclusive_reading first = after_reading fits kind.Unless (then_reading fits (table_reading fits xop_of_word) (λ x. then_reading fits atom_reading
+        (λ second. done_reading fits (bodies.Unless first x second) (λ k u h. All-cons IsWrittenAtom first (second ∷ []) h (All-cons IsWrittenAtom second [] k (All-nil IsWrittenAtom))))))
 
-    pub body_reading : IsReading depth fits rule_body IsWrittenBody
+    pub body_reading : IsReading fits rule_body IsWrittenBody
     unfolding rule_body
-    body_reading = then_reading depth fits atom_reading (λ first. choose_reading depth fits ends_body
-        (done_reading depth fits (bodies.One first) (λ h. All-cons IsWrittenAtom first [] h (All-nil IsWrittenAtom)))
-        (choose_reading depth fits is_op (pair_reading first) (exclusive_reading first)))
+    body_reading = then_reading fits atom_reading (λ first. choose_reading fits ends_body
+        (done_reading fits (bodies.One first) (λ h. All-cons IsWrittenAtom first [] h (All-nil IsWrittenAtom)))
+        (choose_reading fits is_op (pair_reading first) (exclusive_reading first)))
 
-    pub imports_reading : IsReading depth fits imports (λ names. Unit)
+    pub imports_reading : IsReading fits imports (λ names. Unit)
     unfolding imports
-    imports_reading = after_reading depth fits kind.Import (then_reading depth fits (separated_reading depth fits kind.Comma name_reading)
-        (λ names. after_reading depth fits kind.Semicolon (done_reading depth fits names (λ h. tt))))
+    imports_reading = after_reading fits kind.Import (then_reading fits (separated_reading fits kind.Comma name_reading)
+        (λ names. after_reading fits kind.Semicolon (done_reading fits names (λ h. tt))))
 
     -- over a reader of expressions
-    module _ (p : Parser Expr) (alone : IsReadingAlone depth fits p IsWrittenExpr) where
-      pub clause_reading : (k : Sym) → IsReading depth fits (clause p k) IsWrittenExpr
+    module _ (p : Parser Expr) (alone : IsReadingAlone fits p IsWrittenExpr) where
+      pub clause_reading : (k : Sym) → IsReading fits (clause p k) IsWrittenExpr
       unfolding clause
-      clause_reading k = after_reading depth fits k (whole_reading depth fits alone)
+      clause_reading k = after_reading fits k (alone_reading fits alone)
 
-      pub entry_reading : IsReading depth fits (entry p) IsWrittenEntry
+      pub entry_reading : IsReading fits (entry p) IsWrittenEntry
       unfolding entry
-      entry_reading = then_reading depth fits name_reading (λ key. then_reading depth fits (clause_reading kind.Arrow)
-          (λ value. done_reading depth fits (record { key = key; value = value }) (λ v k. record { key = k; value = v })))
+      entry_reading = then_reading fits name_reading (λ key. then_reading fits (clause_reading kind.Arrow)
+          (λ value. done_reading fits (record { key = key; value = value }) (λ v k. record { key = k; value = v })))
 
-      pub entries_reading : IsReading depth fits (entries p) (All IsWrittenEntry)
+      pub entries_reading : IsReading fits (entries p) (All IsWrittenEntry)
       unfolding entries
-      entries_reading = after_reading depth fits kind.Map (then_reading depth fits
-          (after_reading depth fits kind.OpenBrace (then_reading depth fits (optional_reading depth fits kind.Ident (separated_reading depth fits kind.Comma entry_reading))
-          (λ found. after_reading depth fits kind.CloseBrace (done_reading depth fits found (λ h. h)))))
-          (λ found. done_reading depth fits (unwrap_or found []) (λ h. written_list found h)))
+      entries_reading = after_reading fits kind.Map (then_reading fits
+          (after_reading fits kind.OpenBrace (then_reading fits (optional_reading fits is_ident (separated_reading fits kind.Comma entry_reading))
+          (λ found. after_reading fits kind.CloseBrace (done_reading fits found (λ h. h)))))
+          (λ found. done_reading fits (unwrap_or found []) (λ h. written_list found h)))
 
       abbrev rule_rest : List ℕ → Parser Rule
-      rule_rest head = after kind.Defines (and_then rule_body (λ body. and_then (optional kind.Where (clause p kind.Where)) (λ filter. and_then (optional kind.Map (entries p)) (λ mapped.
-          and_then (optional kind.Begin (clause p kind.Begin)) (λ start. and_then (optional kind.End (clause p kind.End)) (λ stop. done (rule_of head body filter (unwrap_or mapped []) start stop)))))))
+      rule_rest head = after kind.Defines (and_then rule_body (λ body. and_then (optional (is_kind kind.Where) (clause p kind.Where)) (λ filter. and_then (optional (is_kind kind.Map) (entries p)) (λ mapped.
+          and_then (optional (is_kind kind.Begin) (clause p kind.Begin)) (λ start. and_then (optional (is_kind kind.End) (clause p kind.End)) (λ stop. done (rule_of head body filter (unwrap_or mapped []) start stop)))))))
 
-      rest_reading : (head : List ℕ) → IsReading depth fits (rule_rest head) (λ r. IsName head → IsGoodRule r)
-      rest_reading head = after_reading depth fits kind.Defines (then_reading depth fits body_reading (λ body.
-          then_reading depth fits (optional_reading depth fits kind.Where (clause_reading kind.Where)) (λ filter. then_reading depth fits (optional_reading depth fits kind.Map entries_reading) (λ mapped.
-          then_reading depth fits (optional_reading depth fits kind.Begin (clause_reading kind.Begin)) (λ start. then_reading depth fits (optional_reading depth fits kind.End (clause_reading kind.End)) (λ stop.
-          done_reading depth fits (rule_of head body filter (unwrap_or mapped []) start stop)
+      rest_reading : (head : List ℕ) → IsReading fits (rule_rest head) (λ r. IsName head → IsGoodRule r)
+      rest_reading head = after_reading fits kind.Defines (then_reading fits body_reading (λ body.
+          then_reading fits (optional_reading fits (is_kind kind.Where) (clause_reading kind.Where)) (λ filter. then_reading fits (optional_reading fits (is_kind kind.Map) entries_reading) (λ mapped.
+          then_reading fits (optional_reading fits (is_kind kind.Begin) (clause_reading kind.Begin)) (λ start. then_reading fits (optional_reading fits (is_kind kind.End) (clause_reading kind.End)) (λ stop.
+          done_reading fits (rule_of head body filter (unwrap_or mapped []) start stop)
           (λ t s m f b h. written_rule head body filter (unwrap_or mapped []) start stop h b f (written_list mapped m) s t)))))))
 
-      pub rule_reading : IsReading depth fits (rule p) IsGoodRule
+      pub rule_reading : IsReading fits (rule p) IsGoodRule
       unfolding rule
-      rule_reading = then_reading depth fits name_reading rest_reading
+      rule_reading = then_reading fits name_reading rest_reading
 
-      pub rule_shorter : IsShorter (rule p)
-      unfolding rule
-      rule_shorter = then_shorter depth fits name_reading rest_reading (token_shorter depth fits kind.Ident)
-
-      pub rules_reading : IsReading depth fits (rules p) (All IsGoodRule)
+      pub rules_reading : IsReading fits (rules p) (All IsGoodRule)
       unfolding rules
-      rules_reading = repeated_reading depth fits is_ident rule_reading
+      rules_reading = repeated_reading fits is_ident rule_reading
 
       abbrev module_rest : Parser Module
-      module_rest = and_then (token kind.Ident) (λ name. enclosed kind.OpenBrace kind.CloseBrace (and_then (optional kind.Import imports) (λ found. and_then (rules p) (λ rules.
-          done (record { name = Some name; imports = unwrap_or found []; rules = rules })))))
+      module_rest = and_then (token kind.Ident) (λ name. enclosed kind.OpenBrace (and_then (optional (is_kind kind.Import) imports) (λ found. and_then (rules p) (λ rules.
+          done (record { name = Some name; imports = unwrap_or found []; rules = rules })))) kind.CloseBrace)
 
-      module_rest_reading : IsReading depth fits module_rest IsWrittenModule
-      module_rest_reading = then_reading depth fits (token_reading depth fits kind.Ident) (λ name.
-          after_reading depth fits kind.OpenBrace (then_reading depth fits (then_reading depth fits (optional_reading depth fits kind.Import imports_reading) (λ found. then_reading depth fits rules_reading
-          (λ rules. done_reading depth fits (record { name = Some name; imports = unwrap_or found []; rules = rules }) (λ r i. r))))
-          (λ m. after_reading depth fits kind.CloseBrace (done_reading depth fits m (λ r f. r)))))
+      module_rest_reading : IsReading fits module_rest IsWrittenModule
+      module_rest_reading = then_reading fits (token_reading fits kind.Ident) (λ name.
+          after_reading fits kind.OpenBrace (then_reading fits (then_reading fits (optional_reading fits (is_kind kind.Import) imports_reading) (λ found. then_reading fits rules_reading
+          (λ rules. done_reading fits (record { name = Some name; imports = unwrap_or found []; rules = rules }) (λ r i. r))))
+          (λ m. after_reading fits kind.CloseBrace (done_reading fits m (λ r f. r)))))
 
-      pub module_reading : IsReading depth fits (module_word p) IsWrittenModule
+      pub module_reading : IsReading fits (module_word p) IsWrittenModule
       unfolding module_word
-      module_reading = after_reading depth fits kind.Module module_rest_reading
-
-      pub module_shorter : IsShorter (module_word p)
-      unfolding module_word
-      module_shorter = after_shorter depth fits kind.Module module_rest_reading
+      module_reading = after_reading fits kind.Module module_rest_reading
 
       -- an item of rules that can be written
       pub IsWrittenItem : Item → Type 0
       IsWrittenItem (loose r) = IsGoodRule r
       IsWrittenItem (named m) = IsWrittenModule m
 
-      pub item_reading : IsReading depth fits (item p) IsWrittenItem
+      pub item_reading : IsReading fits (item p) IsWrittenItem
       unfolding item IsWrittenItem
-      item_reading = choose_reading depth fits is_ident (then_reading depth fits rule_reading (λ r. done_reading depth fits (loose r) (λ h. h)))
-          (then_reading depth fits module_reading (λ m. done_reading depth fits (named m) (λ h. h)))
-
-      pub item_shorter : IsShorter (item p)
-      unfolding item
-      item_shorter = choose_shorter depth fits {Good = λ i. Unit} is_ident
-          (then_reading depth fits rule_reading (λ r. done_reading depth fits (loose r) (λ h. tt)))
-          (then_reading depth fits module_reading (λ m. done_reading depth fits (named m) (λ h. tt)))
-          (then_shorter depth fits {Good = λ i. Unit} rule_reading (λ r. done_reading depth fits (loose r) (λ h. tt)) rule_shorter)
-          (then_shorter depth fits {Good = λ i. Unit} module_reading (λ m. done_reading depth fits (named m) (λ h. tt)) module_shorter)
+      item_reading = choose_reading fits is_ident (then_reading fits rule_reading (λ r. done_reading fits (loose r) (λ h. h)))
+          (then_reading fits module_reading (λ m. done_reading fits (named m) (λ h. h)))
 
       written_in_front : (rule : Rule) (modules : List Module) → IsGoodRule rule → All IsWrittenModule modules → All IsWrittenModule (in_front rule modules)
       written_in_front rule [] h k = All-cons IsWrittenModule (unnamed (rule ∷ [])) [] (All-cons IsGoodRule rule [] h (All-nil IsGoodRule)) (All-nil IsWrittenModule)
@@ -197,6 +180,6 @@ module _ (IsName : List ℕ → Type 0) (IsWrittenExpr : Expr → Type 0) where
       written_modules (loose r ∷ items) h = written_in_front r (modules_of items) (All-head IsWrittenItem (loose r) items h) (written_modules items (All-tail IsWrittenItem (loose r) items h))
       written_modules (named m ∷ items) h = All-cons IsWrittenModule m (modules_of items) (All-head IsWrittenItem (named m) items h) (written_modules items (All-tail IsWrittenItem (named m) items h))
 
-      pub file_reading : IsReading depth fits (file p) (All IsWrittenModule)
+      pub file_reading : IsReading fits (file p) (All IsWrittenModule)
       unfolding file
-      file_reading = then_reading depth fits (repeated_reading depth fits is_some item_reading) (λ items. done_reading depth fits (modules_of items) (λ h. written_modules items h))
+      file_reading = then_reading fits (repeated_reading fits is_some item_reading) (λ items. done_reading fits (modules_of items) (λ h. written_modules items h))

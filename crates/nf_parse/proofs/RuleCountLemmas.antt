@@ -8,18 +8,19 @@ use Rattle.nf_core.specs.declared.trees.Rule.{Rule}
 use Rattle.nf_core.specs.declared.trees.Module.{Module}
 use Rattle.nf_parse.specs.declared.symbol.Sym.{Sym}
 use Rattle.nf_parse.specs.declared.symbol.Sym.TheVariants as kind
-use Rattle.nf_parse.specs.State.{Word, State, next}
+use Rattle.nf_grammar.specs.State.{next}
+use Rattle.nf_grammar.specs.inner.Parsers.{bind, and_then, done, in_list, choose, repeated_from, repeated}
+use Rattle.nf_grammar.proofs.Public.ReaderLemmas.{no_ok, token_shorter}
+use Rattle.nf_parse.specs.State.{Word, State, of_kind}
 use Rattle.nf_parse.specs.Answers.{rules_in, entries_in, size_of}
 use Rattle.nf_parse.specs.Grammar.{Item, loose, named, unnamed, in_front, modules_of}
-use Rattle.nf_parse.specs.inner.Parsers.{Outcome, Parser, bind, and_then, done, is_sym, is_at, token, after, enclosed}
+use Rattle.nf_parse.specs.inner.Parsers.{Outcome, Parser, is_kind, token, after, enclosed, optional, separated}
 use Rattle.nf_parse.specs.inner.Reading.{expression, paren}
-use Rattle.nf_parse.specs.inner.Parts.{in_some, in_list, choose, optional, repeated_from, repeated, separated}
 use Rattle.nf_parse.specs.inner.RuleReading.{is_ident, clause, entry, entries, rule, rules, module_word, item, file}
-use Rattle.nf_parse.proofs.ExactPartLemmas.{no_ok}
 use Rattle.nf_parse.proofs.OutcomeLemmas.{ok_value}
-use Rattle.nf_parse.proofs.ReadPartLemmas.{IsReading, not_longer, token_reading, token_shorter, optional_reading}
+use Rattle.nf_parse.proofs.ReadPartLemmas.{IsReading, not_longer, token_reading, optional_reading}
 use Rattle.nf_parse.proofs.ReadRuleLemmas.{imports_reading, body_reading, clause_reading}
-use Rattle.nf_parse.proofs.ExactRuleLemmas.{alone_at}
+use Rattle.nf_parse.proofs.FileLemmas.{alone_at}
 
 -- any words
 abbrev Any : Word → Type 0
@@ -36,7 +37,7 @@ then_sized {A} {B} {over} {p} {k} {size} {total} a b = record { sized = λ s t y
     go s t y (Ok read) h e = omega (arith, a.sized s read.1 read.0 h, (b read.0).sized read.1 t y e)
     go s t y (Err f) h e = absurd (no_ok f (y, t) e)
 
-reading_sized : {A : Type 0} {depth : ℕ} {p : Parser A} {Good : A → Type 0} (over : ℕ) → IsReading depth Any p Good → IsSized over p (λ x. over)
+reading_sized : {A : Type 0} {p : Parser A} {Good : A → Type 0} (over : ℕ) → IsReading Any p Good → IsSized over p (λ x. over)
 reading_sized over r = record { sized = λ s t x e. omega (arith, not_longer s t (r.behind s t x e)) }
 
 done_sized : {A : Type 0} (x : A) (size : A → ℕ) → IsSized (size x) (done x) size
@@ -44,15 +45,15 @@ done_sized x size = record { sized = λ s t y e. let g = ok_value x y s t e in o
 
 -- a word counts one
 word_sized : (k : Sym) (over : ℕ) → IsSized over (token k) (λ x. suc over)
-word_sized k over = record { sized = λ s t x e. omega (arith, (token_shorter 0 Any k).fewer s t x e) }
+word_sized k over = record { sized = λ s t x e. omega (arith, (token_shorter (of_kind k)).fewer s t x e) }
 
 token_sized : (k : Sym) (over : ℕ) → IsSized over (token k) (λ x. over)
-token_sized k over = reading_sized over (token_reading 0 Any k)
+token_sized k over = reading_sized over (token_reading Any k)
 
 after_sized : {A : Type 0} {over : ℕ} {p : Parser A} {size : A → ℕ} (k : Sym) → IsSized over p size → IsSized over (after k p) size
 after_sized {A} {over} k a = then_sized (token_sized k over) (λ bytes. a)
 
-enclosed_sized : {A : Type 0} {over : ℕ} {p : Parser A} {size : A → ℕ} (opening closing : Sym) → IsSized over p size → IsSized over (enclosed opening closing p) size
+enclosed_sized : {A : Type 0} {over : ℕ} {p : Parser A} {size : A → ℕ} (opening closing : Sym) → IsSized over p size → IsSized over (enclosed opening p closing) size
 enclosed_sized {A} {over} {p} {size} opening closing a = after_sized opening (then_sized a (λ x. after_sized closing (done_sized x size)))
 
 -- what is left over before is left over behind, too
@@ -69,20 +70,13 @@ either_size a b s t x true e = a.sized s t x e
 either_size a b s t x false e = b.sized s t x e
 
 -- a list where there is one
-module _ {A : Type 0} {p : Parser (List A)} (k : Sym) (part : IsSized 0 p (λ xs. length xs)) where
+module _ {A : Type 0} {p : Parser (List A)} (test : Option Word → Bool) (part : IsSized 0 p (λ xs. length xs)) where
   abbrev listed : Option (List A) → ℕ
   listed found = length (unwrap_or found [])
 
-  some_size : (s t : State) (x : Option (List A)) (o : Outcome (List A)) → p s ≡ o → in_some o ≡ Ok (x, t) → listed x + length t.words ≤ 0 + length s.words
-  some_size s t x (Ok read) e f = let g = ok_value (Some read.0) x read.1 t f in omega (arith, part.sized s read.1 read.0 e, ap listed g.0, ap (λ (u : State). length u.words) g.1)
-  some_size s t x (Err f) e g = absurd (no_ok f (x, t) g)
-
-  some_sized : IsSized 0 (λ s. in_some (p s)) listed
-  some_sized = record { sized = λ s t x e. some_size s t x (p s) refl e }
-
-  optional_sized : IsSized 0 (optional k p) listed
-  unfolding optional
-  optional_sized = record { sized = λ s t x e. either_size some_sized (done_sized None listed) s t x (is_at k s) e }
+  optional_sized : IsSized 0 (optional test p) listed
+  unfolding choose
+  optional_sized = record { sized = λ s t x e. either_size (then_sized part (λ xs. done_sized (Some xs) listed)) (done_sized None listed) s t x (test (next s)) e }
 
 -- an item in front of those that are read later
 module _ {A : Type 0} {q : Parser (List A)} (size : A → ℕ) (x : A) (later : IsSized 0 q (sum_by size)) where
@@ -97,14 +91,14 @@ module _ {A : Type 0} {q : Parser (List A)} (size : A → ℕ) (x : A) (later : 
 
 -- a list of parts, of which each counts
 module _ {A : Type 0} {p : Parser A} {size : A → ℕ} (part : IsSized 0 p size) where
-  turns_sized : (test : Option Sym → Bool) (turns : ℕ) → IsSized 0 (repeated_from test p turns) (sum_by size)
+  turns_sized : (test : Option Word → Bool) (turns : ℕ) → IsSized 0 (repeated_from test p turns) (sum_by size)
   unfolding repeated_from
   turns_sized test zero = done_sized [] (sum_by size)
   turns_sized test (suc turns) = record {
     sized = λ s t xs e. either_size (then_sized part (λ x. front_sized size x (turns_sized test turns))) (done_sized [] (sum_by size)) s t xs (test (next s)) e;
   }
 
-  repeated_sized : (test : Option Sym → Bool) → IsSized 0 (repeated test p) (sum_by size)
+  repeated_sized : (test : Option Word → Bool) → IsSized 0 (repeated test p) (sum_by size)
   unfolding repeated
   repeated_sized test = record { sized = λ s t xs e. (turns_sized test (length s.words)).sized s t xs e }
 
@@ -112,10 +106,13 @@ ones : {A : Type 0} (xs : List A) → sum_by (λ x. 1) xs ≡ length xs
 ones [] = refl
 ones (x ∷ xs) = omega (arith, ones xs, sum_by-cons (λ x. 1) x xs)
 
+-- an item in front of a list counts one
+one_more : {A : Type 0} (x : A) (xs : List A) → IsSized (1 + length xs) (done (x ∷ xs)) (λ ys. length ys)
+one_more x xs = record { sized = λ s t ys e. let g = ok_value (x ∷ xs) ys s t e in omega (arith, ap length g.0, ap (λ (u : State). length u.words) g.1) }
+
 -- parts with separators between them
 separated_sized : {A : Type 0} {p : Parser A} (k : Sym) → IsSized 0 p (λ x. 1) → IsSized 0 (separated k p) (λ xs. length xs)
-unfolding separated
-separated_sized k part = counted_sized ones (then_sized part (λ x. front_sized (λ x. 1) x (repeated_sized (after_sized k part) (λ n. is_sym n k))))
+separated_sized k part = then_sized part (λ x. then_sized (kept_sized 1 (counted_sized ones (repeated_sized (after_sized k part) (is_kind k)))) (λ xs. one_more x xs))
 
 -- how much a rule, a module and an item count: each rule and each entry of its map
 abbrev rule_size : Rule → ℕ
@@ -152,10 +149,10 @@ module _ (depth : ℕ) where
   p = expression (paren depth)
 
   clause_sized : (k : Sym) (over : ℕ) → IsSized over (clause p k) (λ x. over)
-  clause_sized k over = reading_sized over (clause_reading (λ bytes. Unit) (λ x. Unit) depth Any (λ bytes h. tt) p (alone_at depth) k)
+  clause_sized k over = reading_sized over (clause_reading (λ bytes. Unit) (λ x. Unit) Any (λ bytes h. tt) p (alone_at depth) k)
 
-  optional_clause_sized : (k : Sym) (over : ℕ) → IsSized over (optional k (clause p k)) (λ x. over)
-  optional_clause_sized k over = reading_sized over (optional_reading depth Any k (clause_reading (λ bytes. Unit) (λ x. Unit) depth Any (λ bytes h. tt) p (alone_at depth) k))
+  optional_clause_sized : (k : Sym) (over : ℕ) → IsSized over (optional (is_kind k) (clause p k)) (λ x. over)
+  optional_clause_sized k over = reading_sized over (optional_reading Any (is_kind k) (clause_reading (λ bytes. Unit) (λ x. Unit) Any (λ bytes h. tt) p (alone_at depth) k))
 
   entry_sized : IsSized 0 (entry p) (λ x. 1)
   unfolding entry
@@ -163,13 +160,13 @@ module _ (depth : ℕ) where
 
   entries_sized : IsSized 0 (entries p) (λ xs. length xs)
   unfolding entries
-  entries_sized = after_sized kind.Map (then_sized (enclosed_sized kind.OpenBrace kind.CloseBrace (optional_sized kind.Ident (separated_sized kind.Comma entry_sized)))
+  entries_sized = after_sized kind.Map (then_sized (enclosed_sized kind.OpenBrace kind.CloseBrace (optional_sized is_ident (separated_sized kind.Comma entry_sized)))
       (λ found. done_sized (unwrap_or found []) (λ xs. length xs)))
 
   rule_sized : IsSized 0 (rule p) rule_size
   unfolding rule
-  rule_sized = then_sized (word_sized kind.Ident 0) (λ head. after_sized kind.Defines (then_sized (reading_sized 1 (body_reading (λ bytes. Unit) (λ x. Unit) depth Any (λ bytes h. tt))) (λ body.
-      then_sized (optional_clause_sized kind.Where 1) (λ filter. then_sized (kept_sized 1 (optional_sized kind.Map entries_sized)) (λ mapped.
+  rule_sized = then_sized (word_sized kind.Ident 0) (λ head. after_sized kind.Defines (then_sized (reading_sized 1 (body_reading (λ bytes. Unit) (λ x. Unit) Any (λ bytes h. tt))) (λ body.
+      then_sized (optional_clause_sized kind.Where 1) (λ filter. then_sized (kept_sized 1 (optional_sized (is_kind kind.Map) entries_sized)) (λ mapped.
       then_sized (optional_clause_sized kind.Begin (1 + length (unwrap_or mapped []))) (λ start. then_sized (optional_clause_sized kind.End (1 + length (unwrap_or mapped []))) (λ stop.
       done_sized (record { head = head; body = body; filter = filter; entries = unwrap_or mapped []; start = start; stop = stop }) rule_size)))))))
 
@@ -180,7 +177,7 @@ module _ (depth : ℕ) where
   module_sized : IsSized 0 (module_word p) module_size
   unfolding module_word
   module_sized = after_sized kind.Module (then_sized (token_sized kind.Ident 0) (λ name. enclosed_sized kind.OpenBrace kind.CloseBrace
-      (then_sized (reading_sized 0 (optional_reading depth Any kind.Import (imports_reading (λ bytes. Unit) (λ x. Unit) depth Any (λ bytes h. tt)))) (λ found.
+      (then_sized (reading_sized 0 (optional_reading Any (is_kind kind.Import) (imports_reading (λ bytes. Unit) (λ x. Unit) Any (λ bytes h. tt)))) (λ found.
       then_sized rules_sized (λ rs. done_sized (record { name = Some name; imports = unwrap_or found []; rules = rs }) module_size)))))
 
   item_sized : IsSized 0 (item p) item_size

@@ -20,8 +20,9 @@ use Rattle.nf_lex.specs.Faults.{fault_of, body_of}
 use Rattle.nf_parse.specs.declared.symbol.Sym.{Sym}
 use Rattle.nf_parse.specs.declared.symbol.Sym.TheVariants as kind
 use Rattle.nf_parse.specs.State.{sym_of, sym_in, keywords, marks}
-use Rattle.nf_parse.specs.inner.Parsers.{same, IsSound}
-use Rattle.nf_parse.proofs.ExactLemmas.{same_self}
+use Rattle.nf_parse.specs.inner.Parsers.{IsSound}
+use denote.Enum.Bare.{sameb, true_same}
+use Rattle.nf_parse.specs.contracts.symbol.Sym.{the_type}
 use Rattle.nf_lex.proofs.Public.NameLemmas.{name_utf8}
 use Rattle.nf_lex.proofs.Public.KindLemmas as kinds
 use Rattle.nf_lex.proofs.Public.KindLemmas.{name_word, number_word, text_word, number_digits}
@@ -32,14 +33,14 @@ use Rattle.nf_lemmas.proofs.DigitLemmas.{digits_model}
 not_true : not true ≡ true → ⊥
 not_true e = cc
 
-not_chosen : (k j : Sym) (b : Bool) (rest : Option Sym) → not (same j k) ≡ true → (unwrap_or rest kind.Other ≡ k → ⊥) → unwrap_or (cond b (Some j) rest) kind.Other ≡ k → ⊥
-not_chosen k j true rest n o e = not_true (subst (λ b. not b ≡ true) (ap (λ i. same i k) e ∙ same_self k) n)
+not_chosen : (k j : Sym) (b : Bool) (rest : Option Sym) → not (sameb the_type j k) ≡ true → (unwrap_or rest kind.Other ≡ k → ⊥) → unwrap_or (cond b (Some j) rest) kind.Other ≡ k → ⊥
+not_chosen k j true rest n o e = not_true (subst (λ b. not b ≡ true) (ap (λ i. sameb the_type i k) e ∙ true_same the_type k k refl) n)
 not_chosen k j false rest n o e = o e
 
-not_in : (k : Sym) → (k ≡ kind.Other → ⊥) → (table : List (List ℕ × Sym)) → list_all (λ (entry : List ℕ × Sym). not (same entry.1 k)) table ≡ true → (bytes : List ℕ) → sym_in table bytes ≡ k → ⊥
+not_in : (k : Sym) → (k ≡ kind.Other → ⊥) → (table : List (List ℕ × Sym)) → list_all (λ (entry : List ℕ × Sym). not (sameb the_type entry.1 k)) table ≡ true → (bytes : List ℕ) → sym_in table bytes ≡ k → ⊥
 not_in k o [] h bytes e = o (sym e)
 not_in k o (entry ∷ table) h bytes e =
-    let parts = and_parts (not (same entry.1 k)) (list_all (λ (entry : List ℕ × Sym). not (same entry.1 k)) table) h in
+    let parts = and_parts (not (sameb the_type entry.1 k)) (list_all (λ (entry : List ℕ × Sym). not (sameb the_type entry.1 k)) table) h in
     not_chosen k entry.1 (bytes_eq bytes entry.0) (lookup (bytes_eq bytes) table) parts.0 (not_in k o table parts.1 bytes) e
 
 -- the kinds of identifiers, numbers and texts

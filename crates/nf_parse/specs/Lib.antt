@@ -1,5 +1,4 @@
 pub mod State
-pub mod Combinators
 pub mod Grammar
 pub mod Answers
 pub mod Parses

@@ -1,10 +1,13 @@
 -- The words of a source, and where a reading stands among them.
-use Rattle.std.specs.Prelude.{ℕ, List, [], ◌∷◌, map, codes, bytes_eq, unwrap_or, Option, Some, None}
+use Rattle.std.specs.Prelude.{ℕ, List, [], ◌∷◌, map, codes, bytes_eq, unwrap_or, Option, Some, None, if◌then◌else◌}
 use Rattle.std.specs.Map.{lookup}
 use Rattle.nf_lex.specs.declared.token.Token.{Token}
 use Rattle.nf_lex.specs.declared.token.TokenKind.{TokenKind}
 use Rattle.nf_lex.specs.declared.token.TokenKind.TheVariants as kind
 use Rattle.nf_lex.specs.Layout.{text_of}
+use Rattle.nf_grammar.specs.State as grammar
+use denote.Enum.Bare.{sameb}
+use Rattle.nf_parse.specs.contracts.symbol.Sym.{the_type}
 use Rattle.nf_parse.specs.declared.symbol.Sym.{Sym}
 use Rattle.nf_parse.specs.declared.symbol.Sym.TheVariants as sym
 
@@ -53,18 +56,15 @@ word_of source token = (sym_of token.kind (text_of source token), text_of source
 abbrev pub words_of : List ℕ → List Token → List Word
 words_of source tokens = map (word_of source) tokens
 
--- where a reading stands: the words that are left, and how many operators may still stand in the expression there
-pub record State : Type 0 where
-  pub operators : ℕ
-  pub words : List Word
-
-abbrev pub state : ℕ → List Word → State
-state operators words = record { operators = operators; words = words }
+-- where a reading stands among words: those that are left, and how many operators may still stand in the expression there
+abbrev pub State : Type 0
+State = grammar.State Word
 
 -- what the next word is, if there is one
-abbrev pub next_of : List Word → Option Sym
-next_of [] = None
-next_of (word ∷ words) = Some word.0
+abbrev pub kind_of_next : Option Word → Option Sym
+kind_of_next None = None
+kind_of_next (Some word) = Some word.0
 
-abbrev pub next : State → Option Sym
-next s = next_of s.words
+-- the bytes of a word of a kind
+abbrev pub of_kind : Sym → Word → Option (List ℕ)
+of_kind k word = if sameb the_type word.0 k then Some word.1 else None

@@ -1,6 +1,5 @@
 -- How the code works, no part of the meaning.
 pub mod Parsers
-pub mod Parts
 pub mod Reading
 pub mod FileReading
 pub mod RuleReading

@@ -1,23 +1,24 @@
 //! The reader of the clauses of a rule.
 
 ghost use Rattle.std.specs.Prelude.{◌≡◌, ◌≤◌, [], IfOk, OnOk, All, IfSome, unwrap_or};
-ghost use Rattle.nf_parse.specs.inner.Parsers.{Reads, TookWord, IsWithin, whole};
+ghost use Rattle.nf_grammar.specs.inner.Parsers.{Reads, alone};
+ghost use Rattle.nf_parse.specs.inner.Parsers.{TookWord, IsWithin};
 ghost use Rattle.nf_parse.specs.inner.Limited.{IsLimited, HasLimitedValue};
 ghost use Rattle.nf_parse.specs.inner.RuleReading as spec;
 
 use crate::expressions::expression;
-use crate::fault::Halt;
 use crate::literals::name_of;
 use crate::reader::Reader;
 use crate::symbol::Sym;
 use nf_core::{Entry, EntryList, Expr, ListOf, MOST_OPEN, MOST_OPERATORS, trees_by_parts};
+use nf_grammar::Halt;
 use std::alloc::Global;
 
 /// An expression by itself: what stands behind it may have as many operators.
-#[tactic(auto, unfolding(crate::specs::inner::RuleReading::limited, crate::specs::inner::Parsers::whole))]
+#[tactic(auto, unfolding(crate::specs::inner::RuleReading::limited, nf_grammar::specs::inner::Parsers::alone))]
 fn whole(alloc: Global, reader: &mut Reader<'_>) -> Result<Expr, Halt>
-    requires { reader.old.operators ≤ MOST_OPERATORS }
-    ensures reads { Reads (whole spec.limited reader.old) result reader.new }
+    requires { reader.old.room ≤ MOST_OPERATORS }
+    ensures reads { Reads (alone spec.limited reader.old) result reader.new }
     ensures within { IsWithin reader.old reader.new }
     ensures limits { IfOk result IsLimited }
 {
@@ -31,7 +32,7 @@ fn whole(alloc: Global, reader: &mut Reader<'_>) -> Result<Expr, Halt>
 /// A keyword and its expression.
 #[tactic(auto, unfolding(crate::specs::inner::RuleReading::clause))]
 pub(crate) fn clause(alloc: Global, word: Sym, reader: &mut Reader<'_>) -> Result<Expr, Halt>
-    requires { reader.old.operators ≤ MOST_OPERATORS }
+    requires { reader.old.room ≤ MOST_OPERATORS }
     ensures reads { Reads (spec.clause spec.limited word reader.old) result reader.new }
     ensures within { IsWithin reader.old reader.new }
     ensures shorter { OnOk result (TookWord reader.old reader.new) }
@@ -42,13 +43,13 @@ pub(crate) fn clause(alloc: Global, word: Sym, reader: &mut Reader<'_>) -> Resul
 }
 
 /// A keyword and its expression, where the keyword comes next.
-#[tactic(auto, unfolding(crate::specs::inner::Parts::optional))]
+#[tactic(auto, unfolding(nf_grammar::specs::inner::Parsers::choose))]
 pub(crate) fn optional_clause(
     alloc: Global,
     word: Sym,
     reader: &mut Reader<'_>,
 ) -> Result<Option<Expr>, Halt>
-    requires { reader.old.operators ≤ MOST_OPERATORS }
+    requires { reader.old.room ≤ MOST_OPERATORS }
     ensures reads { Reads (spec.optional_clause spec.limited word reader.old) result reader.new }
     ensures within { IsWithin reader.old reader.new }
     ensures limits { IfOk result (λ x. IfSome x IsLimited) }
@@ -63,7 +64,7 @@ pub(crate) fn optional_clause(
 /// An entry of a map.
 #[tactic(auto, unfolding(crate::specs::inner::RuleReading::entry))]
 fn entry(alloc: Global, reader: &mut Reader<'_>) -> Result<Entry, Halt>
-    requires { reader.old.operators ≤ MOST_OPERATORS }
+    requires { reader.old.room ≤ MOST_OPERATORS }
     ensures reads { Reads (spec.entry spec.limited reader.old) result reader.new }
     ensures within { IsWithin reader.old reader.new }
     ensures shorter { OnOk result (TookWord reader.old reader.new) }
@@ -77,7 +78,7 @@ fn entry(alloc: Global, reader: &mut Reader<'_>) -> Result<Entry, Halt>
 
 /// An entry of a map behind a comma.
 fn next_entry(alloc: Global, reader: &mut Reader<'_>) -> Result<Entry, Halt>
-    requires { reader.old.operators ≤ MOST_OPERATORS }
+    requires { reader.old.room ≤ MOST_OPERATORS }
     ensures reads { Reads (spec.next_entry spec.limited reader.old) result reader.new }
     ensures within { IsWithin reader.old reader.new }
     ensures shorter { OnOk result (TookWord reader.old reader.new) }
@@ -89,7 +90,7 @@ fn next_entry(alloc: Global, reader: &mut Reader<'_>) -> Result<Entry, Halt>
 
 /// Entries of a map with commas between them.
 fn entry_list(alloc: Global, reader: &mut Reader<'_>) -> Result<EntryList, Halt>
-    requires { reader.old.operators ≤ MOST_OPERATORS }
+    requires { reader.old.room ≤ MOST_OPERATORS }
     ensures reads { Reads (spec.entry_list spec.limited reader.old) result reader.new }
     ensures within { IsWithin reader.old reader.new }
     ensures limits { IfOk result (All HasLimitedValue) }
@@ -105,9 +106,9 @@ fn entry_list(alloc: Global, reader: &mut Reader<'_>) -> Result<EntryList, Halt>
 }
 
 /// The entries of a map, between braces.
-#[tactic(auto, unfolding(crate::specs::inner::Parts::optional))]
+#[tactic(auto, unfolding(nf_grammar::specs::inner::Parsers::choose))]
 fn inner_entries(alloc: Global, reader: &mut Reader<'_>) -> Result<Option<EntryList>, Halt>
-    requires { reader.old.operators ≤ MOST_OPERATORS }
+    requires { reader.old.room ≤ MOST_OPERATORS }
     ensures reads { Reads (spec.inner_entries spec.limited reader.old) result reader.new }
     ensures within { IsWithin reader.old reader.new }
     ensures limits { IfOk result (λ entries. IfSome entries (All HasLimitedValue)) }
@@ -132,7 +133,7 @@ pub(crate) fn or_empty<T: Drop>(alloc: Global, list: Option<ListOf<T>>) -> ListO
 /// A map: its entries between braces.
 #[tactic(auto, using(crate::proofs::PartStepLemmas::all_or_empty), unfolding(crate::specs::inner::RuleReading::entries))]
 fn entries(alloc: Global, reader: &mut Reader<'_>) -> Result<EntryList, Halt>
-    requires { reader.old.operators ≤ MOST_OPERATORS }
+    requires { reader.old.room ≤ MOST_OPERATORS }
     ensures reads { Reads (spec.entries spec.limited reader.old) result reader.new }
     ensures within { IsWithin reader.old reader.new }
     ensures limits { IfOk result (All HasLimitedValue) }
@@ -145,12 +146,12 @@ fn entries(alloc: Global, reader: &mut Reader<'_>) -> Result<EntryList, Halt>
 }
 
 /// A map, where one comes next.
-#[tactic(auto, unfolding(crate::specs::inner::Parts::optional))]
+#[tactic(auto, unfolding(nf_grammar::specs::inner::Parsers::choose))]
 pub(crate) fn optional_entries(
     alloc: Global,
     reader: &mut Reader<'_>,
 ) -> Result<Option<EntryList>, Halt>
-    requires { reader.old.operators ≤ MOST_OPERATORS }
+    requires { reader.old.room ≤ MOST_OPERATORS }
     ensures reads { Reads (spec.optional_entries spec.limited reader.old) result reader.new }
     ensures within { IsWithin reader.old reader.new }
     ensures limits { IfOk result (λ entries. IfSome entries (All HasLimitedValue)) }

@@ -1,16 +1,18 @@
 //! The reader of expressions.
 
-ghost use Rattle.std.specs.Prelude.{◌<◌, OnOk};
-ghost use Rattle.nf_parse.specs.inner.Parsers.{Reads, TookWord, IsWithin};
+ghost use Rattle.std.specs.Prelude.{◌≡◌, OnOk, Some};
+ghost use Rattle.nf_grammar.specs.State.{next};
+ghost use Rattle.nf_grammar.specs.inner.Parsers.{Reads, in_table};
+ghost use Rattle.nf_parse.specs.inner.Parsers.{TookWord, IsWithin};
 ghost use Rattle.nf_parse.specs.inner.Reading as spec;
 
-use crate::fault::Halt;
 use crate::level::Level;
 use crate::literals::{name_of, number_of, text_of};
 use crate::operators::op_at;
 use crate::reader::Reader;
 use crate::symbol::Sym;
-use nf_core::{BinOp, Expr};
+use nf_core::{BinOp, Expr, Text};
+use nf_grammar::Halt;
 use sqlite_items::Boxed;
 use std::alloc::Global;
 
@@ -60,11 +62,11 @@ fn right_of(
     depth: usize,
     reader: &mut Reader<'_>,
 ) -> Result<Expr, Halt>
-    ensures reads { Reads (spec.right_at (spec.paren depth) level left op reader.old)
+    requires { in_table (spec.op_of_word level) (next reader.old) ≡ Some op }
+    ensures reads { Reads (spec.right_at (spec.paren depth) level left reader.old)
         result reader.new }
     ensures within { IsWithin reader.old reader.new }
     ensures shorter { OnOk result (TookWord reader.old reader.new) }
-    ensures fewer { OnOk result (reader.new.operators < reader.old.operators) }
 {
     reader.operator()?;
     let right = operand(alloc, level, depth, reader)?;
@@ -73,7 +75,6 @@ fn right_of(
 
 /// A sum, or two with a comparison between them.
 #[cycle(parser)]
-#[tactic(auto, unfolding(crate::specs::inner::Reading::single))]
 fn comparison(alloc: Global, depth: usize, reader: &mut Reader<'_>) -> Result<Expr, Halt>
     ensures reads { Reads (spec.comparison (spec.paren depth) reader.old) result reader.new }
     ensures within { IsWithin reader.old reader.new }
@@ -87,9 +88,9 @@ fn comparison(alloc: Global, depth: usize, reader: &mut Reader<'_>) -> Result<Ex
 
 /// An operand behind any number of signs.
 #[cycle(parser)]
-#[tactic(auto, using(crate::proofs::OperandLoopLemmas::unary_minus, crate::proofs::OperandLoopLemmas::unary_bang, crate::proofs::OperandLoopLemmas::unary_other))]
+#[tactic(auto, using(crate::proofs::OperandLoopLemmas::other_read))]
 fn unary(alloc: Global, depth: usize, reader: &mut Reader<'_>) -> Result<Expr, Halt>
-    ensures reads { Reads (spec.signed (spec.paren depth) reader.old) result reader.new }
+    ensures reads { Reads (spec.signed_operand (spec.paren depth) reader.old) result reader.new }
     ensures within { IsWithin reader.old reader.new }
 {
     match reader.next() {
@@ -109,7 +110,7 @@ fn unary(alloc: Global, depth: usize, reader: &mut Reader<'_>) -> Result<Expr, H
 
 /// An operand without operators, by its first word.
 #[cycle(parser)]
-#[tactic(auto, unfolding(crate::specs::inner::Reading::primary))]
+#[tactic(auto, using(crate::proofs::KindLemmas::number_primary, crate::proofs::KindLemmas::text_primary, crate::proofs::KindLemmas::true_primary, crate::proofs::KindLemmas::false_primary, crate::proofs::KindLemmas::read_primary, crate::proofs::KindLemmas::paren_primary))]
 fn primary(alloc: Global, depth: usize, reader: &mut Reader<'_>) -> Result<Expr, Halt>
     ensures reads { Reads (spec.primary (spec.paren depth) reader.old) result reader.new }
     ensures within { IsWithin reader.old reader.new }
@@ -137,7 +138,7 @@ fn primary(alloc: Global, depth: usize, reader: &mut Reader<'_>) -> Result<Expr,
 }
 
 /// A read of a key, of a begin or of an end under a label.
-#[tactic(auto, unfolding(crate::specs::inner::Reading::read, crate::specs::inner::Reading::member))]
+#[tactic(auto, unfolding(crate::specs::inner::Reading::read))]
 fn read(alloc: Global, reader: &mut Reader<'_>) -> Result<Expr, Halt>
     ensures reads { Reads (spec.read reader.old) result reader.new }
     ensures within { IsWithin reader.old reader.new }
@@ -145,18 +146,27 @@ fn read(alloc: Global, reader: &mut Reader<'_>) -> Result<Expr, Halt>
     let label = reader.take(Sym::Ident)?;
     let label = name_of(alloc, label)?;
     reader.skip(Sym::Dot)?;
+    member(alloc, label, reader)
+}
+
+/// What is read under a label: a key, the begin or the end.
+#[tactic(auto, using(crate::proofs::KindLemmas::key_member, crate::proofs::KindLemmas::start_member, crate::proofs::KindLemmas::stop_member))]
+fn member(alloc: Global, label: Text, reader: &mut Reader<'_>) -> Result<Expr, Halt>
+    ensures reads { Reads (spec.member label reader.old) result reader.new }
+    ensures within { IsWithin reader.old reader.new }
+{
     match reader.next() {
+        Some(Sym::Ident) => {
+            let key = reader.take(Sym::Ident)?;
+            Ok(Expr::Key(label, name_of(alloc, key)?))
+        }
         Some(Sym::Begin) => {
             reader.skip(Sym::Begin)?;
             Ok(Expr::Start(label))
         }
-        Some(Sym::End) => {
+        _ => {
             reader.skip(Sym::End)?;
             Ok(Expr::Stop(label))
-        }
-        _ => {
-            let key = reader.take(Sym::Ident)?;
-            Ok(Expr::Key(label, name_of(alloc, key)?))
         }
     }
 }

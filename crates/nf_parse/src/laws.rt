@@ -15,7 +15,7 @@ ghost use Rattle.nf_parse.specs.State as kinds;
 ghost use Rattle.nf_parse.specs.State.{sym_in, words_in};
 ghost use Rattle.nf_parse.specs.Grammar.{op_at, op_of, xop_of};
 ghost use Rattle.nf_parse.specs.declared.level.Level.{Level};
-ghost use Rattle.nf_parse.specs.Parses.{Answer, Parses, settled};
+ghost use Rattle.nf_parse.specs.Parses.{Answer, Parses};
 
 use nf_lex::division_is_one;
 
@@ -42,13 +42,11 @@ pub fn one_reading()
     division_is_one();
 }
 
-/// Every source has an answer. Two answers to a source are the same, but that of a refusal as grammar
-/// or too deep neither the line nor which of the two it is was settled. Want of memory is none, and no lexical
-/// fault is want of memory.
+/// Every source has one answer. Want of memory is none, and no lexical fault is want of memory.
 pub fn every_source_is_answered()
     ensures some { (source : List ℕ) → (answer : Answer) × Parses source answer }
     ensures one { (source : List ℕ) (a b : Answer)
-        → Parses source a → Parses source b → settled a ≡ settled b }
+        → Parses source a → Parses source b → a ≡ b }
     ensures known { (source : List ℕ) → Parses source (Err fault.NoMemory) → ⊥ }
     ensures lexical { (source : List ℕ) → Parses source (Err (fault.Lex lexical.NoMemory)) → ⊥ }
 {

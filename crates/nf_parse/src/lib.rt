@@ -1,11 +1,11 @@
 //! The grammar of specifications, and its parser.
 //!
 //! The rule is `Spells` in specs/Answers.antt: the tokens of a source, as nf_lex divides it, are a word
-//! of `File` in specs/Grammar.antt, which has the grammar production by production over the parts of
-//! specs/Combinators.antt, within the two limits of an expression. `parse` gives the modules that such
-//! a source spells, as trees of nf_core. Its limits, its keywords and the words of its operators are those
-//! of nf_core, its marks those of nf_lex, as the laws say. The printer and the reader of whole
-//! specifications stand above it.
+//! of `file` in specs/Grammar.antt, which has the grammar production by production over the parts of
+//! nf_grammar, within the two limits of an expression. `parse` gives the modules that such a source
+//! spells, as trees of nf_core, or the place where its tokens stop being one. Its limits, its keywords and
+//! the words of its operators are those of nf_core, its marks those of nf_lex, as the laws say. The
+//! printer and the reader of whole specifications stand above it.
 #![tactic(auto)]
 
 mod clauses;

@@ -2,16 +2,17 @@
 
 ghost use Rattle.std.specs.Prelude.{◌≤◌, OnOk};
 ghost use Rattle.nf_parse.specs.declared.symbol.Sym.TheVariants as sym;
-ghost use Rattle.nf_parse.specs.inner.Parsers.{Reads, TookWord, IsWithin, token};
+ghost use Rattle.nf_grammar.specs.inner.Parsers.{Reads};
+ghost use Rattle.nf_parse.specs.inner.Parsers.{TookWord, IsWithin, token};
 ghost use Rattle.nf_parse.specs.inner.RuleReading as spec;
 
 use crate::clauses::or_empty;
-use crate::fault::Halt;
 use crate::literals::name_of;
 use crate::reader::Reader;
 use crate::rules::{rules, run_of_rules};
 use crate::symbol::Sym;
 use nf_core::{MOST_OPERATORS, Module, ModuleList, Text, TextList};
+use nf_grammar::Halt;
 use std::alloc::Global;
 
 /// A name.
@@ -62,7 +63,7 @@ fn imports(alloc: Global, reader: &mut Reader<'_>) -> Result<TextList, Halt>
 }
 
 /// The names that a module imports, where `import` comes next.
-#[tactic(auto, unfolding(crate::specs::inner::Parts::optional))]
+#[tactic(auto, unfolding(nf_grammar::specs::inner::Parsers::choose))]
 fn optional_imports(alloc: Global, reader: &mut Reader<'_>) -> Result<Option<TextList>, Halt>
     ensures reads { Reads (spec.optional_imports reader.old) result reader.new }
     ensures within { IsWithin reader.old reader.new }
@@ -77,7 +78,7 @@ fn optional_imports(alloc: Global, reader: &mut Reader<'_>) -> Result<Option<Tex
 /// A module with a name.
 #[tactic(auto, unfolding(crate::specs::inner::RuleReading::module_word))]
 fn module(alloc: Global, reader: &mut Reader<'_>) -> Result<Module, Halt>
-    requires { reader.old.operators ≤ MOST_OPERATORS }
+    requires { reader.old.room ≤ MOST_OPERATORS }
     ensures reads { Reads (spec.module_word spec.limited reader.old) result reader.new }
     ensures within { IsWithin reader.old reader.new }
     ensures shorter { OnOk result (TookWord reader.old reader.new) }
@@ -96,9 +97,9 @@ fn module(alloc: Global, reader: &mut Reader<'_>) -> Result<Module, Halt>
 }
 
 /// A module: the one that stands here, or the run of rules here.
-#[tactic(auto, unfolding(crate::specs::inner::Parts::choose, crate::specs::inner::RuleReading::part))]
+#[tactic(auto, unfolding(nf_grammar::specs::inner::Parsers::choose, crate::specs::inner::RuleReading::part))]
 fn part(alloc: Global, reader: &mut Reader<'_>) -> Result<Module, Halt>
-    requires { reader.old.operators ≤ MOST_OPERATORS }
+    requires { reader.old.room ≤ MOST_OPERATORS }
     ensures reads { Reads (spec.part spec.limited reader.old) result reader.new }
     ensures within { IsWithin reader.old reader.new }
     ensures shorter { OnOk result (TookWord reader.old reader.new) }
@@ -112,7 +113,7 @@ fn part(alloc: Global, reader: &mut Reader<'_>) -> Result<Module, Halt>
 
 /// The modules of a file, up to the end of the words.
 pub(crate) fn file(alloc: Global, reader: &mut Reader<'_>) -> Result<ModuleList, Halt>
-    requires { reader.old.operators ≤ MOST_OPERATORS }
+    requires { reader.old.room ≤ MOST_OPERATORS }
     ensures reads { Reads (spec.file spec.limited reader.old) result reader.new }
 {
     let mut modules = ModuleList::new(alloc);

@@ -2,7 +2,7 @@
 
 ghost use Rattle.std.specs.Prelude.{◌≡◌};
 ghost use Rattle.nf_parse.specs.Grammar.{op_at};
-ghost use Rattle.nf_parse.specs.inner.Parsers.{in_table};
+ghost use Rattle.nf_grammar.specs.inner.Parsers.{in_table};
 
 use crate::level::Level;
 use crate::symbol::Sym;

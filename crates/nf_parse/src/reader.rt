@@ -3,14 +3,16 @@
 ghost use Rattle.std.specs.Prelude.{◌≡◌, ◌+◌, ◌<◌, length, IfOk, IfErr, OnOk, Ok, Some, All};
 ghost use Rattle.nf_parse.specs.declared.symbol.Sym.{Sym};
 ghost use Rattle.nf_lex.specs.Layout.{IsTokenOf};
-ghost use Rattle.nf_parse.specs.declared.fault.Halt.TheVariants as halt;
-ghost use Rattle.nf_parse.specs.declared.fault.Fault.TheVariants as fault;
-ghost use Rattle.nf_parse.specs.State.{state, words_of, next, Word};
+ghost use Rattle.nf_grammar.specs.declared.fault.Halt.TheVariants as halt;
+ghost use Rattle.nf_grammar.specs.declared.fault.Fault.TheVariants as fault;
+ghost use Rattle.nf_grammar.specs.State.{state, next};
+ghost use Rattle.nf_grammar.specs.inner.Parsers.{behind, tail_of, Stops};
+ghost use Rattle.nf_parse.specs.State.{words_of, kind_of_next};
 ghost use Rattle.nf_parse.specs.inner.Parsers as spec;
 
-use crate::fault::{Fault, Halt};
 use crate::symbol::Sym;
 use crate::token_symbols::first_sym;
+use nf_grammar::{Fault, Halt};
 use nf_lex::Token;
 use nf_text::slice;
 use std::marker::Model;
@@ -29,13 +31,14 @@ pub(crate) struct Reader<'a> {
 impl<'a> Model for Reader<'a> {
     ghost use Rattle.std.specs.Prelude.{◌≡◌, All};
     ghost use Rattle.nf_lex.specs.Layout.{IsTokenOf};
-    ghost use Rattle.nf_parse.specs.State.{State, state, words_of, next_of};
+    ghost use Rattle.nf_grammar.specs.State.{state, next_of};
+    ghost use Rattle.nf_parse.specs.State.{State, words_of, kind_of_next};
 
     ghost Value = { State };
 
     ghost view = { λ r. state r.operators (words_of r.source.now r.tokens.now) };
 
-    ghost invariant = { λ r. All (IsTokenOf r.source.now) r.tokens.now × (r.ahead ≡ next_of (words_of r.source.now r.tokens.now)) };
+    ghost invariant = { λ r. All (IsTokenOf r.source.now) r.tokens.now × (r.ahead ≡ kind_of_next (next_of (words_of r.source.now r.tokens.now))) };
 }
 
 impl<'a> Reader<'a> {
@@ -54,7 +57,7 @@ impl<'a> Reader<'a> {
 
     /// What the next word is.
     pub(crate) fn next(&self) -> Option<Sym>
-        ensures { result ≡ next self.now }
+        ensures { result ≡ kind_of_next (next self.now) }
     {
         self.ahead
     }
@@ -71,7 +74,7 @@ impl<'a> Reader<'a> {
 
     /// How many operators may still be read.
     pub(crate) fn operators(&self) -> usize
-        ensures { result ≡ self.now.operators }
+        ensures { result ≡ self.now.room }
     {
         self.operators
     }
@@ -101,8 +104,9 @@ impl<'a> Reader<'a> {
     pub(crate) fn advance(&mut self) -> &'a [u8]
         requires { 0 < length self.old.words }
         ensures bytes { result.now ≡ spec.bytes_of self.old.words }
-        ensures behind { self.new ≡ spec.behind self.old }
-        ensures sound { (k : Sym) → next self.old ≡ Some k → spec.IsSound k result.now }
+        ensures behind { self.new ≡ behind self.old }
+        ensures sound { (k : Sym) → kind_of_next (next self.old) ≡ Some k
+            → spec.IsSound k result.now }
     {
         match self.tokens {
             [] => unreachable!(),
@@ -118,7 +122,7 @@ impl<'a> Reader<'a> {
     #[tactic(auto, using(crate::proofs::StepLemmas::token_read, crate::proofs::StepLemmas::token_refused))]
     pub(crate) fn take(&mut self, kind: Sym) -> Result<&'a [u8], Halt>
         ensures reads { IfOk result (λ bytes. spec.token kind self.old ≡ Ok (bytes.now, self.new)) }
-        ensures stops { IfErr result (spec.Stops (spec.token kind self.old)) }
+        ensures stops { IfErr result (Stops (spec.token kind self.old)) }
         ensures sound { IfOk result (λ bytes. spec.IsSound kind bytes.now) }
         ensures within { spec.IsWithin self.old self.new }
         ensures shorter { OnOk result (spec.TookWord self.old self.new) }
@@ -134,7 +138,7 @@ impl<'a> Reader<'a> {
     #[tactic(auto, using(crate::proofs::StepLemmas::token_read, crate::proofs::StepLemmas::token_refused))]
     pub(crate) fn skip(&mut self, kind: Sym) -> Result<(), Halt>
         ensures reads { OnOk result (spec.GoesPast (spec.token kind) self.old self.new) }
-        ensures stops { IfErr result (spec.Stops (spec.token kind self.old)) }
+        ensures stops { IfErr result (Stops (spec.token kind self.old)) }
         ensures within { spec.IsWithin self.old self.new }
         ensures shorter { OnOk result (spec.TookWord self.old self.new) }
     {
@@ -146,18 +150,16 @@ impl<'a> Reader<'a> {
         }
     }
 
-    /// Goes past the next word as an operator. Where no more may be read, nothing is.
-    #[tactic(auto, using(crate::proofs::StepLemmas::operator_read, crate::proofs::StepLemmas::operator_full, crate::proofs::StepLemmas::operator_refused))]
+    /// Goes past the next word as an operator; there has to be one. Where no more may be read, nothing is.
     pub(crate) fn operator(&mut self) -> Result<(), Halt>
-        ensures reads { OnOk result (spec.GoesPast spec.operator self.old self.new) }
-        ensures stops { IfErr result (spec.Stops (spec.operator self.old)) }
+        requires { 0 < length self.old.words }
+        ensures past { OnOk result (self.old.room ≡ 1 + self.new.room) }
+        ensures words { OnOk result (self.new.words ≡ tail_of self.old.words) }
+        ensures full { IfErr result (λ at. (self.old.room ≡ 0)
+            × (at ≡ halt.At (fault.TooDeep (length self.old.words)))) }
         ensures within { spec.IsWithin self.old self.new }
         ensures shorter { OnOk result (spec.TookWord self.old self.new) }
-        ensures fewer { OnOk result (self.old.operators ≡ 1 + self.new.operators) }
     {
-        let Some(_) = self.ahead else {
-            return Err(self.refuse());
-        };
         if self.operators == 0 {
             return Err(self.too_deep());
         }

@@ -3,17 +3,19 @@
 ghost use Rattle.std.specs.Prelude.{◌≡◌, ◌≤◌, OnOk, IfSome, IfNone, true};
 ghost use Rattle.nf_parse.specs.declared.symbol.Sym.TheVariants as sym;
 ghost use Rattle.nf_parse.specs.Grammar as grammar;
-ghost use Rattle.nf_parse.specs.State.{next};
-ghost use Rattle.nf_parse.specs.inner.Parsers.{Reads, TookWord, IsWithin, behind, in_table, is_at};
-ghost use Rattle.nf_parse.specs.inner.Parts as parts;
+ghost use Rattle.nf_grammar.specs.State.{next};
+ghost use Rattle.nf_grammar.specs.inner.Parsers as parser;
+ghost use Rattle.nf_grammar.specs.inner.Parsers.{Reads, behind, in_table};
+ghost use Rattle.nf_parse.specs.State.{kind_of_next};
+ghost use Rattle.nf_parse.specs.inner.Parsers.{TookWord, IsWithin, is_at};
 ghost use Rattle.nf_parse.specs.inner.RuleReading as spec;
 
 use crate::clauses::{optional_clause, optional_entries, or_empty};
-use crate::fault::Halt;
 use crate::literals::name_of;
 use crate::reader::Reader;
 use crate::symbol::Sym;
 use nf_core::{Atom, Body, MOST_OPERATORS, Module, Op, Rule, RuleList, Text, TextList, Xop};
+use nf_grammar::Halt;
 use std::alloc::Global;
 
 /// The inclusive operator that a word is.
@@ -48,9 +50,9 @@ fn xop_of(next: Option<Sym>) -> Option<Xop>
 }
 
 /// The inclusive operator that comes next, where one does. Goes past it.
-#[tactic(auto, using(crate::proofs::PartStepLemmas::table_words))]
+#[tactic(auto, using(crate::proofs::StepLemmas::some_word))]
 fn op(reader: &mut Reader<'_>) -> Option<Op>
-    ensures is { result ≡ in_table grammar.op_of (next reader.old) }
+    ensures is { result ≡ in_table grammar.op_of (kind_of_next (next reader.old)) }
     ensures behind { IfSome result (λ _. reader.new ≡ behind reader.old) }
     ensures stays { IfNone result (reader.new ≡ reader.old) }
 {
@@ -60,9 +62,9 @@ fn op(reader: &mut Reader<'_>) -> Option<Op>
 }
 
 /// The exclusive operator that comes next.
-#[tactic(auto, using(crate::proofs::PartStepLemmas::table_words), unfolding(crate::specs::inner::Parts::one_of))]
+#[tactic(auto, using(crate::proofs::StepLemmas::some_word, crate::proofs::PartStepLemmas::table_read, crate::proofs::PartStepLemmas::table_refused))]
 fn xop(reader: &mut Reader<'_>) -> Result<Xop, Halt>
-    ensures reads { Reads (parts.one_of grammar.xop_of reader.old) result reader.new }
+    ensures reads { Reads (parser.token spec.xop_of_word reader.old) result reader.new }
     ensures within { IsWithin reader.old reader.new }
 {
     let Some(xop) = xop_of(reader.next()) else {
@@ -73,7 +75,7 @@ fn xop(reader: &mut Reader<'_>) -> Result<Xop, Halt>
 }
 
 /// A `:` and a name, where a `:` comes next.
-#[tactic(auto, unfolding(crate::specs::inner::Parts::optional))]
+#[tactic(auto, unfolding(nf_grammar::specs::inner::Parsers::choose))]
 fn name_behind(alloc: Global, reader: &mut Reader<'_>) -> Result<Option<Text>, Halt>
     ensures reads { Reads (spec.name_behind reader.old) result reader.new }
     ensures within { IsWithin reader.old reader.new }
@@ -119,7 +121,7 @@ fn exclusive(alloc: Global, first: Atom, reader: &mut Reader<'_>) -> Result<Body
 }
 
 /// What stands behind the first atom of a body.
-#[tactic(auto, using(crate::proofs::PartStepLemmas::pair_read), unfolding(crate::specs::inner::Parts::choose))]
+#[tactic(auto, using(crate::proofs::PartStepLemmas::exclusive_read, crate::proofs::PartStepLemmas::alone_read))]
 fn body_behind(alloc: Global, first: Atom, reader: &mut Reader<'_>) -> Result<Body, Halt>
     ensures reads { Reads (spec.body_behind first reader.old) result reader.new }
     ensures within { IsWithin reader.old reader.new }
@@ -147,7 +149,7 @@ fn body(alloc: Global, reader: &mut Reader<'_>) -> Result<Body, Halt>
 /// A rule.
 #[tactic(auto, unfolding(crate::specs::inner::RuleReading::rule))]
 fn rule(alloc: Global, reader: &mut Reader<'_>) -> Result<Rule, Halt>
-    requires { reader.old.operators ≤ MOST_OPERATORS }
+    requires { reader.old.room ≤ MOST_OPERATORS }
     ensures reads { Reads (spec.rule spec.limited reader.old) result reader.new }
     ensures within { IsWithin reader.old reader.new }
     ensures shorter { OnOk result (TookWord reader.old reader.new) }
@@ -173,7 +175,7 @@ fn rule(alloc: Global, reader: &mut Reader<'_>) -> Result<Rule, Halt>
 /// The rules here, as long as one follows another.
 #[tactic(auto, using(crate::proofs::PartListLemmas::list_start, crate::proofs::PartListLemmas::list_more, crate::proofs::PartListLemmas::list_stops, crate::proofs::PartListLemmas::list_ends), unfolding(crate::specs::inner::RuleReading::rules))]
 pub(crate) fn rules(alloc: Global, reader: &mut Reader<'_>) -> Result<RuleList, Halt>
-    requires { reader.old.operators ≤ MOST_OPERATORS }
+    requires { reader.old.room ≤ MOST_OPERATORS }
     ensures reads { Reads (spec.rules spec.limited reader.old) result reader.new }
     ensures within { IsWithin reader.old reader.new }
     ensures shorter { is_at sym.Ident reader.old ≡ true
@@ -189,7 +191,7 @@ pub(crate) fn rules(alloc: Global, reader: &mut Reader<'_>) -> Result<RuleList, 
 
 /// The rules here, as long as one follows another, as a module without name.
 pub(crate) fn run_of_rules(alloc: Global, reader: &mut Reader<'_>) -> Result<Module, Halt>
-    requires { reader.old.operators ≤ MOST_OPERATORS }
+    requires { reader.old.room ≤ MOST_OPERATORS }
     ensures reads { Reads (spec.run_of_rules spec.limited reader.old) result reader.new }
     ensures within { IsWithin reader.old reader.new }
     ensures shorter { is_at sym.Ident reader.old ≡ true

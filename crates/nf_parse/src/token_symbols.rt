@@ -2,7 +2,8 @@
 
 ghost use Rattle.std.specs.Prelude.{◌≡◌, map, All};
 ghost use Rattle.nf_lex.specs.Layout.{IsTokenOf, text_of};
-ghost use Rattle.nf_parse.specs.State.{sym_of, sym_in, next_of, words_of};
+ghost use Rattle.nf_grammar.specs.State.{next_of};
+ghost use Rattle.nf_parse.specs.State.{sym_of, sym_in, kind_of_next, words_of};
 
 use crate::symbol::Sym;
 use nf_lex::{Token, TokenKind};
@@ -61,7 +62,7 @@ const MARKS: [(&[u8], Sym); 24] = [
 /// What the first of some tokens of a source is, where there is one.
 pub(crate) fn first_sym(source: &[u8], tokens: &[Token]) -> Option<Sym>
     requires { All (IsTokenOf source.now) tokens.now }
-    ensures { result ≡ next_of (words_of source.now tokens.now) }
+    ensures { result ≡ kind_of_next (next_of (words_of source.now tokens.now)) }
 {
     match tokens {
         [] => None,

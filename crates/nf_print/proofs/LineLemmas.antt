@@ -9,7 +9,9 @@ use Rattle.nf_core.specs.declared.trees.Expr.{Expr}
 use Rattle.nf_core.specs.declared.trees.Entry.{Entry}
 use Rattle.nf_text.specs.Value.{is_plain}
 use Rattle.nf_parse.specs.Grammar.{unnamed}
-use Rattle.nf_parse.specs.Answers.{IsFileWithin, Spells}
+use Rattle.nf_grammar.specs.Places.{IsText}
+use Rattle.nf_parse.specs.Grammar.{file}
+use Rattle.nf_parse.specs.Answers.{limits, Spells}
 use Rattle.nf_print.specs.Canonical.{canonical}
 use Rattle.nf_print.proofs.ReadWordLemmas.{AreRead}
 use Rattle.nf_print.proofs.ReadRuleLemmas.{IsPrintable, rule_read}
@@ -82,5 +84,5 @@ line_spells laws plain back rule w r =
     record {
       tokens = found.tokens;
       divides = found.divides;
-      file = subst (λ ws. IsFileWithin 64 256 ws (unnamed (rule ∷ []) ∷ [])) (sym found.spelled) (file_spelled back rule (good back rule w r));
+      text = subst (λ ws. IsText file limits ws (unnamed (rule ∷ []) ∷ [])) (sym found.spelled) (file_spelled back rule (good back rule w r));
     }

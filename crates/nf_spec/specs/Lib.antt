@@ -1,4 +1,3 @@
 pub mod Sources
 pub mod Specification
-pub mod Settled
 pub mod inner

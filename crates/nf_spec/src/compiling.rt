@@ -30,10 +30,10 @@ pub struct Compiled {
 ///
 /// A refusal comes exactly where `Specifies` of specs/Specification.antt has it, in this order: TooLong
 /// where all files together have more than 1,048,576 bytes; file by file, by its place counted from 0,
-/// Lex, and then Grammar or TooDeep; SameModule and NoModule; Kinds at the first selected rule, counted
-/// from 1, whose kinds aren't right; Cycle at the first head that depends on itself. Which line a
-/// refusal as Grammar or TooDeep has, and which of the two it is where both apply, isn't promised. NoMemory
-/// may come from any call. Every rule that is answered can be written, so that it can be printed.
+/// Lex, or else Grammar or TooDeep, with the line of the token where the file stops being one or of its end
+/// (`IsRefused` of nf_parse); SameModule and NoModule; Kinds at the first selected rule, counted from 1,
+/// whose kinds aren't right; Cycle at the first head that depends on itself. NoMemory may come from any
+/// call. Every rule that is answered can be written, so that it can be printed.
 #[tactic(auto, using(crate::proofs::SpecifiedLemmas::past_limit, crate::proofs::SpecifiedLemmas::no_modules, crate::proofs::SpecifiedLemmas::from_modules))]
 pub fn compile(alloc: Global, files: &SourceList, root: Option<&str>) -> Result<Compiled, SpecFault>
     requires { length files.now < 2 ^ 32 }

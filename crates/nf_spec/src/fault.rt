@@ -18,10 +18,12 @@ pub enum SpecFault {
     /// The file at a place has a lexical fault, its first one. The fault is never `NoMemory`.
     #[error("file {0}: {1}")]
     Lex(u32, LexFault),
-    /// The file at a place isn't in the grammar. Which line is given isn't promised.
+    /// The file at a place isn't in the grammar: with the token on this line its tokens are no front of a
+    /// file, or they end there and are none.
     #[error("file {0}: line {1}: grammar")]
     Grammar(u32, u64),
-    /// An expression of the file at a place passes a limit. Which line is given isn't promised.
+    /// An expression of the file at a place passes a limit: the token on this line is the 65th parenthesis
+    /// that is open at once in it, or its 257th operator.
     #[error("file {0}: line {1}: too deep")]
     TooDeep(u32, u64),
     /// No module has the name that was asked for as the root, or one that a reached module imports.

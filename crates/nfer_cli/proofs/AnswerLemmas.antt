@@ -9,7 +9,7 @@ use Rattle.nf_io.proofs.Public.{Took-none, TookPrefix-none}
 use Rattle.nf_line.specs.Lines.{with_last}
 use Rattle.nf_line.specs.Trace.{trace_over}
 use Rattle.nf_spec.specs.declared.compiling.Compiled.{Compiled}
-use Rattle.nfer_cli.specs.Follow.{follow_text, follow_text_by}
+use Rattle.nfer_cli.specs.Follow.{follow_text_by}
 use Rattle.nfer_cli.specs.Sources.{sources_of}
 use Rattle.nfer_cli.specs.inner.Failures.{concluded, session_status}
 use Rattle.nfer_cli.specs.inner.Specified.{Accepts, IsAccepted}

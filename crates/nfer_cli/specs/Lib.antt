@@ -8,5 +8,4 @@ pub mod Statuses
 pub mod Messages
 pub mod Answers
 pub mod Calls
-pub mod Settled
 pub mod inner

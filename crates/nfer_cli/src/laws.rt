@@ -7,7 +7,6 @@ ghost use Rattle.nf_line.specs.Trace.{Event};
 ghost use Rattle.nf_model.specs.Changes.{no_inputs};
 ghost use Rattle.nfer_cli.specs.Answers.{Answer, Defines};
 ghost use Rattle.nfer_cli.specs.Follow.{follow_text, text_from};
-ghost use Rattle.nfer_cli.specs.Settled.{IsSameAnswer};
 ghost use Rattle.nfer_cli.specs.Words.{Asked, Asks, AsksNothing};
 
 use nf_spec::every_specification_has_one_answer;
@@ -27,13 +26,13 @@ pub fn follow_text_is_one_change_after_another()
 {}
 
 /// Every question has a defined answer, whatever the words and the files are, and no question has two:
-/// the answer that a call is measured by is determined by what it was given (`Defines` of specs/Answers),
-/// up to what isn't settled of a refused source (`AreAlike` of specs/Settled.antt).
+/// the answer that a call is measured by, and after how many files it is known, are determined by what it
+/// was given (`Defines` of specs/Answers).
 pub fn every_question_has_one_answer()
     ensures some { (asked : Option Asked) (files : Files)
         → (reads : ℕ) × (answer : Answer) × Defines asked files reads answer }
     ensures one { (asked : Option Asked) (files : Files) (m n : ℕ) (a b : Answer)
-        → Defines asked files m a → Defines asked files n b → IsSameAnswer m a n b }
+        → Defines asked files m a → Defines asked files n b → (m ≡ n) × (a ≡ b) }
 {
     every_specification_has_one_answer();
 }

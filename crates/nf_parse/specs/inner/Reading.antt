@@ -1,97 +1,88 @@
 -- The reader of expressions as functions on states.
-use Rattle.std.specs.Prelude.{ℕ, zero, suc, pos, true, false, List, Option, Some, None, if◌then◌else◌}
+use Rattle.std.specs.Prelude.{ℕ, zero, suc, pos, true, false, Bool, List, Option, is_some, option_to_list}
 use Rattle.std.specs.Str.Parse.{digits_value}
 use Rattle.nf_core.specs.declared.operators.BinOp.{BinOp}
 use Rattle.nf_core.specs.declared.trees.Expr.{Expr}
 use Rattle.nf_core.specs.declared.trees.Expr.TheVariants as e
 use Rattle.nf_lex.specs.Faults.{body_of}
+use Rattle.nf_grammar.specs.inner.Parsers.{counted, and_then, done, choose, repeated, nowhere, in_table}
 use Rattle.nf_parse.specs.declared.level.Level.{Level}
 use Rattle.nf_parse.specs.declared.level.Level.TheVariants as level
-use Rattle.nf_parse.specs.declared.symbol.Sym.{Sym}
 use Rattle.nf_parse.specs.declared.symbol.Sym.TheVariants as sym
-use Rattle.nf_parse.specs.State.{next}
-use Rattle.nf_parse.specs.inner.Parsers.{Parser, and_then, done, token, after, enclosed, refuse, too_deep, is_at, operator, in_table, at_operator}
-use Rattle.nf_parse.specs.Grammar.{op_at}
+use Rattle.nf_parse.specs.State.{Word}
+use Rattle.nf_parse.specs.Grammar.{op_at, sign_of, joined, signed}
+use Rattle.nf_parse.specs.inner.Parsers.{Parser, is_kind, token, after, enclosed, optional}
 
--- an operator and its right operand, behind a left one
-abbrev pub right_of : Parser Expr → Expr → BinOp → Parser Expr
-right_of operand left o = and_then operator (λ word. and_then operand (λ right. done (e.Bin o left right)))
+-- what a word is as an operator of a level
+abbrev pub op_of_word : Level → Word → Option BinOp
+op_of_word l word = op_at l word.0
 
-module _ (table : Sym → Option BinOp) (operand : Parser Expr) where
-  -- the operands behind the first one, in at most so many turns
-  unfoldable pub chain_from : ℕ → Expr → Parser Expr
-  chain_from zero left s = at_operator (in_table table (next s)) (done left) (λ o. too_deep) s
-  chain_from (suc turns) left s = at_operator (in_table table (next s)) (done left) (λ o. and_then operator (λ word. and_then operand (λ right. chain_from turns (e.Bin o left right)))) s
+-- whether a word is an operator of a level
+abbrev pub is_operator : Level → Option Word → Bool
+is_operator l n = is_some (in_table (op_of_word l) n)
 
-  -- operand { operator operand }: each turn uses up an operator
-  unfoldable pub chain : Parser Expr
-  chain = and_then operand (λ left s. chain_from s.operators left s)
+-- what a word is as a sign
+abbrev pub sign_of_word : Word → Option (Expr → Expr)
+sign_of_word word = sign_of word.0
 
-  -- operand [ operator operand ]
-  unfoldable pub single : Parser Expr
-  single = and_then operand (λ left s. at_operator (in_table table (next s)) (done left) (right_of operand left) s)
+abbrev pub is_sign : Option Word → Bool
+is_sign n = is_some (in_table sign_of_word n)
 
--- IDENT "." ( IDENT | "begin" | "end" ), behind the IDENT and the "."
-abbrev pub member_at : List ℕ → Option Sym → Parser Expr
-member_at label (Some sym.Begin) = and_then (token sym.Begin) (λ word. done (e.Start label))
-member_at label (Some sym.End) = and_then (token sym.End) (λ word. done (e.Stop label))
-member_at label other = and_then (token sym.Ident) (λ name. done (e.Key label name))
+-- an operator of a level with its right operand
+unfoldable pub with_operand : Level → Parser Expr → Parser (BinOp × Expr)
+with_operand l operand = and_then (counted (op_of_word l)) (λ o. and_then operand (λ right. done (o, right)))
 
+-- an operator of a level and its right operand, behind a left one
+abbrev pub right_of : Level → Parser Expr → Expr → Parser Expr
+right_of l operand left = and_then (with_operand l operand) (λ next. done (e.Bin next.0 left next.1))
+
+-- operand { operator operand }
+unfoldable pub chain : Level → Parser Expr → Parser Expr
+chain l operand = and_then operand (λ left. and_then (repeated (is_operator l) (with_operand l operand)) (λ rest. done (joined left rest)))
+
+-- operand [ operator operand ]
+unfoldable pub single : Level → Parser Expr → Parser Expr
+single l operand = and_then operand (λ left. and_then (optional (is_operator l) (with_operand l operand)) (λ rest. done (joined left (option_to_list rest))))
+
+-- what stands behind the `.` of a read
 unfoldable pub member : List ℕ → Parser Expr
-member label s = member_at label (next s) s
+member label = choose (is_kind sym.Ident) (and_then (token sym.Ident) (λ key. done (e.Key label key)))
+    (choose (is_kind sym.Begin) (after sym.Begin (done (e.Start label))) (after sym.End (done (e.Stop label))))
 
 -- a read of a key, of a begin or of an end
 unfoldable pub read : Parser Expr
 read = and_then (token sym.Ident) (λ label. after sym.Dot (member label))
 
-module _ (paren : Parser Expr) where
-  -- prim, by its first word
-  abbrev pub primary_at : Option Sym → Parser Expr
-  primary_at (Some sym.Number) = and_then (token sym.Number) (λ bytes. done (e.Int (pos (digits_value 10 bytes))))
-  primary_at (Some sym.Text) = and_then (token sym.Text) (λ bytes. done (e.Text (body_of bytes)))
-  primary_at (Some sym.True) = and_then (token sym.True) (λ bytes. done (e.Bool true))
-  primary_at (Some sym.False) = and_then (token sym.False) (λ bytes. done (e.Bool false))
-  primary_at (Some sym.Ident) = read
-  primary_at other = paren
+-- an operand without operators, by its first word
+unfoldable pub primary : Parser Expr → Parser Expr
+primary paren = choose (is_kind sym.Number) (and_then (token sym.Number) (λ bytes. done (e.Int (pos (digits_value 10 bytes)))))
+    (choose (is_kind sym.Text) (and_then (token sym.Text) (λ bytes. done (e.Text (body_of bytes))))
+    (choose (is_kind sym.True) (after sym.True (done (e.Bool true))) (choose (is_kind sym.False) (after sym.False (done (e.Bool false)))
+    (choose (is_kind sym.Ident) read paren))))
 
-  unfoldable pub primary : Parser Expr
-  primary s = primary_at (next s) s
-
--- a sign of an operand: `-` or `!`
-abbrev pub sign_of : Option Sym → Option (Expr → Expr)
-sign_of (Some sym.Minus) = Some e.Neg
-sign_of (Some sym.Bang) = Some e.Not
-sign_of other = None
-
-module _ (prim : Parser Expr) where
-  -- unary, in at most so many turns
-  unfoldable pub unary_from : ℕ → Parser Expr
-  unary_from zero s = at_operator (sign_of (next s)) prim (λ sign. too_deep) s
-  unary_from (suc turns) s = at_operator (sign_of (next s)) prim (λ sign. and_then operator (λ word. and_then (unary_from turns) (λ x. done (sign x)))) s
-
-  -- each turn uses up an operator
-  unfoldable pub unary : Parser Expr
-  unary s = unary_from s.operators s
+-- signs and then an operand
+unfoldable pub unary : Parser Expr → Parser Expr
+unary prim = and_then (repeated is_sign (counted sign_of_word)) (λ signs. and_then prim (λ x. done (signed signs x)))
 
 module _ (paren : Parser Expr) where
-  -- prim behind any number of signs
-  abbrev pub signed : Parser Expr
-  signed = unary (primary paren)
+  -- an operand behind any number of signs
+  abbrev pub signed_operand : Parser Expr
+  signed_operand = unary (primary paren)
 
   abbrev pub product : Parser Expr
-  product = chain (op_at level.Product) signed
+  product = chain level.Product signed_operand
 
   abbrev pub sum : Parser Expr
-  sum = chain (op_at level.Sum) product
+  sum = chain level.Sum product
 
   abbrev pub comparison : Parser Expr
-  comparison = single (op_at level.Compare) sum
+  comparison = single level.Compare sum
 
   abbrev pub conjunction : Parser Expr
-  conjunction = chain (op_at level.And) comparison
+  conjunction = chain level.And comparison
 
   abbrev pub expression : Parser Expr
-  expression = chain (op_at level.Or) conjunction
+  expression = chain level.Or conjunction
 
   -- what stands between the operators of a level
   abbrev pub operand : Level → Parser Expr
@@ -99,17 +90,17 @@ module _ (paren : Parser Expr) where
   operand level.And = comparison
   operand level.Compare = sum
   operand level.Sum = product
-  operand level.Product = signed
-
-  -- an operator of a level and its right operand, behind a left one
-  abbrev pub right_at : Level → Expr → BinOp → Parser Expr
-  right_at l = right_of (operand l)
+  operand level.Product = signed_operand
 
   -- operand { operator operand } at a level
   abbrev pub chain_at : Level → Parser Expr
-  chain_at l = chain (op_at l) (operand l)
+  chain_at l = chain l (operand l)
+
+  -- an operator of a level and its right operand, behind a left one
+  abbrev pub right_at : Level → Expr → Parser Expr
+  right_at l left = right_of l (operand l) left
 
 -- "(" expr ")", where at most so many parentheses are open at once
 unfoldable pub paren : ℕ → Parser Expr
-paren zero s = if is_at sym.Open s then too_deep s else refuse s
-paren (suc depth) s = enclosed sym.Open sym.Close (expression (paren depth)) s
+paren zero = nowhere (is_kind sym.Open)
+paren (suc depth) = enclosed sym.Open (expression (paren depth)) sym.Close

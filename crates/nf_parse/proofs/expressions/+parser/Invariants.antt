@@ -1,5 +1,4 @@
 use Rattle.std.proofs.Common.{◌+◌, ◌*◌, length}
-use Rattle.nf_parse.specs.Grammar.{op_at}
 use Rattle.nf_parse.specs.inner.Reading as spec
 use Rattle.nf_parse.proofs.OperandLoopLemmas.{operand_rank, IsChainAt}
 use Rattle.nf_parse.proofs.expressions.+parser.Given as goal
@@ -26,7 +25,7 @@ abbrev pub decreases-unary : goal.decreases-unary
 decreases-unary l = 20 * length l.reader.now.words + 2
 
 abbrev pub invariant-chain-operands : goal.invariant-chain-operands
-invariant-chain-operands l = IsChainAt (op_at l.level) (spec.operand (spec.paren l.depth) l.level) l.fn.reader l.left l.reader
+invariant-chain-operands l = IsChainAt l.level (spec.operand (spec.paren l.depth) l.level) l.fn.reader l.left l.reader
 
 abbrev pub decreases-chain-operands : goal.decreases-chain-operands
 decreases-chain-operands l = length l.reader.words

@@ -2,7 +2,7 @@ use Rattle.std.proofs.Common.{length}
 use Rattle.nf_parse.specs.inner.Parsers.{IsWithin}
 use Rattle.nf_parse.specs.inner.RuleReading as spec
 use Rattle.nf_parse.proofs.FileLoopLemmas.{IsFileAt}
-use Rattle.nf_parse.proofs.ExactRuleLemmas.{limited_shorter}
+use Rattle.nf_parse.proofs.RuleReaderLemmas.{limited_shorter}
 use Rattle.nf_parse.proofs.modules.file.Given as goal
 
 abbrev pub invariant-modules : goal.invariant-modules

@@ -1,7 +1,8 @@
 use Rattle.std.proofs.Common.{◌≡◌, inr, ap, sym, ◌∙◌, subst, Ok, Err}
 use Rattle.nf_core.specs.declared.limits.TheConstants.{MOST_OPERATORS}
-use Rattle.nf_parse.specs.State.{state, words_of}
-use Rattle.nf_parse.specs.inner.FileReading.{outcome_of, fault_at}
+use Rattle.nf_grammar.specs.State.{state}
+use Rattle.nf_parse.specs.State.{words_of}
+use Rattle.nf_parse.specs.inner.FileReading.{outcome_of, halted_at}
 use Rattle.nf_parse.proofs.LimitLemmas.{IsByParts}
 use Rattle.nf_parse.proofs.SourceModuleLemmas.{IsWrittenToken, reads_source, given_written, given_few}
 use Rattle.nf_parse.proofs.AnswerLemmas.{OrNoMemory, modules_answer, stop_answer}
@@ -28,7 +29,7 @@ returns-in-Err-clause-parses c =
     let source = c.args.source.now in
     let tokens = c.args.tokens.now in
     let at : c.new-reader.result ≡ state MOST_OPERATORS (words_of source tokens) = c.new-reader.ensures ∙ ap (λ found. state MOST_OPERATORS (words_of source found)) c.as_slice-tokens.ensures in
-    let is : c.fault_at.result ≡ fault_at source tokens c.in-Err.halt = c.fault_at.ensures ∙ ap (λ found. fault_at source found c.in-Err.halt) c.as_slice-tokens.ensures in
+    let is : c.halted_at.result ≡ halted_at source tokens c.in-Err.halt = c.halted_at.ensures ∙ ap (λ found. halted_at source found c.in-Err.halt) c.as_slice-tokens.ensures in
     subst (λ fault. OrNoMemory source (Err fault)) (sym is)
     (stop_answer source tokens c.requires.divides c.in-Err.halt c.file.new.reader
     (reads_source source tokens c.new-reader.result c.file.new.reader at c.file.result c.file.ensures.reads (Err c.in-Err.halt) c.in-Err.is))

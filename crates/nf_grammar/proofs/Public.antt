@@ -1,0 +1,4 @@
+-- Lemmas that the crates above cite.
+pub mod ReaderLemmas
+pub mod LimitLemmas
+pub mod PlaceLemmas
