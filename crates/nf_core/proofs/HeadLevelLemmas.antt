@@ -1,8 +1,8 @@
--- A name of a plan is a head exactly where its level is above 0.
+-- A name of a plan has rules exactly where its level is above 0.
 use Rattle.std.proofs.Common.{◌≡◌, ℕ, suc, ◌<◌, ◌≤◌, max, ◌==◌, ◌||◌, Bool, true, false, cond, nat_lt, List, [], ◌∷◌, ◌++◌, length, map, filter, flat_map, fold, refl, ap, ◌∙◌, arith}
 use Rattle.std.specs.List.{list_any}
 use Rattle.std.proofs.lemmas.Bool.{lt-ltb}
-use Rattle.nf_core.specs.Plan.{Plan, IsPlan, is_head, level_of, second_name, body_names, greatest}
+use Rattle.nf_core.specs.Plan.{Plan, IsPlan, has_rules, level_of, second_name, body_names, greatest}
 use Rattle.nf_core.specs.declared.terms.PlanRule.{PlanRule}
 
 -- the greatest of numbers that come after others is at least what came before
@@ -26,5 +26,5 @@ module _ (plan : Plan) (n : ℕ) where
       by true rest = positive (level_of plan rule.first) (map (λ m. suc (level_of plan m)) (second_name rule.link ++ flat_map body_names (filter (λ (r : PlanRule). r.head == n) rules)))
       by false rest = rest
 
-  pub is_head-level : IsPlan plan → n < length plan.names → nat_lt 0 (level_of plan n) ≡ is_head plan n
-  is_head-level valid h = ap (nat_lt 0) (valid.levels n h) ∙ head_by_level plan.rules
+  pub has_rules-level : IsPlan plan → n < length plan.names → nat_lt 0 (level_of plan n) ≡ has_rules plan n
+  has_rules-level valid h = ap (nat_lt 0) (valid.levels n h) ∙ head_by_level plan.rules

@@ -12,4 +12,5 @@ pub mod NameNumberLemmas
 pub mod PlanRuleLemmas
 pub mod CollectedKeyLemmas
 pub mod NumberedTermLemmas
+pub mod WideNameLemmas
 pub mod Public

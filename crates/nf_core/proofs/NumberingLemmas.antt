@@ -1,22 +1,11 @@
 -- The steps of the loops that number names, levels and rules.
-use Rattle.std.proofs.Common.{◌≡◌, ℕ, zero, suc, ◌+◌, ◌<◌, List, [], ◌∷◌, ◌++◌, length, get_or, take, map, flat_map, slice_get, Some, All, Contains, sym, ap, subst, ◌∙◌}
+use Rattle.std.proofs.Common.{◌≡◌, ℕ, zero, suc, ◌+◌, ◌<◌, List, [], ◌∷◌, ◌++◌, length, get_or, take, map, slice_get, Some, All, Contains, sym, ap, subst, ◌∙◌}
 use Rattle.std.specs.List.{AllByRecursion}
-use Rattle.std.proofs.lemmas.List.{take_more, map_more, append-nil}
+use Rattle.std.proofs.lemmas.List.{take_more, map_more}
 use Rattle.std.proofs.lemmas.List.Elements.{All-push}
-use Rattle.std.proofs.lemmas.List.Sums.{fold-append}
-use Rattle.std.proofs.lemmas.Grind.{flat_map-append}
-use Rattle.indexmap.specs.IndexSet.{insert_key, insert_all}
-use Rattle.nf_core.specs.Texts.{text_eq}
 use Rattle.nf_core.specs.Written.{names_in, names_of}
 use Rattle.nf_core.specs.declared.trees.Rule.{Rule}
-use Rattle.nf_core.proofs.Public.PlanLemmas.{known_names}
-
--- the names of some rules and one more
-pub names_of_more : (rules : List Rule) (i : ℕ) (d : Rule) → i < length rules → names_of (take (i + 1) rules) ≡ insert_all text_eq (names_of (take i rules)) (names_in (get_or rules i d))
-names_of_more rules i d h =
-    ap names_of (take_more rules i d h)
-    ∙ ap (insert_all text_eq []) (flat_map-append names_in (take i rules) (get_or rules i d ∷ []) ∙ ap (λ last. flat_map names_in (take i rules) ++ last) (append-nil (names_in (get_or rules i d))))
-    ∙ fold-append (insert_key text_eq) [] (flat_map names_in (take i rules)) (names_in (get_or rules i d))
+use Rattle.nf_core.proofs.Public.NameLemmas.{known_names}
 
 -- an item that is there is the item at that place
 pub get_or-slice_get : {A : Type 0} (xs : List A) (i : ℕ) (x d : A) → slice_get xs i ≡ Some x → get_or xs i d ≡ x

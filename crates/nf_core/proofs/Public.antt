@@ -2,6 +2,7 @@
 pub mod AscendingLemmas
 pub mod TreeLemmas
 pub mod EachOnceLemmas
+pub mod NameLemmas
 pub mod PlanLemmas
 pub mod WorkedDefinitions
 pub mod WrittenNumberLemmas

@@ -1,5 +1,5 @@
--- Identifiers: the names, labels and keys that a specification can write.
-use Rattle.std.specs.Prelude.{ℕ, Bool, false, not, ◌&&◌, ◌||◌, ◌==◌, nat_le, List, [], ◌∷◌, codes, bytes_eq}
+-- Identifiers: the names, labels and keys that a specification can write. Wide names, which none can.
+use Rattle.std.specs.Prelude.{ℕ, Bool, false, not, ◌&&◌, ◌||◌, ◌==◌, nat_le, List, [], ◌∷◌, codes, bytes_eq, All, IsTrue}
 use Rattle.std.specs.List.{list_any, list_all}
 
 -- `A` to `Z`, `a` to `z` and `_`
@@ -23,3 +23,17 @@ keywords = codes "module" ∷ codes "import" ∷ codes "where" ∷ codes "map" �
 -- the form of a name, and no word of the grammar
 unfoldable pub is_identifier : List ℕ → Bool
 is_identifier text = has_name_form text && not (list_any (λ word. bytes_eq word text) keywords)
+
+-- a name whose text begins with `|`, as no identifier and no name of a trace does
+unfoldable pub is_wide_name : List ℕ → Bool
+is_wide_name [] = false
+is_wide_name (byte ∷ bytes) = byte == 124
+
+-- a name is an identifier, and so is each of its keys
+pub record AreIdentifiers (text : List ℕ) (texts : List (List ℕ)) : Type 0 where
+  pub name : IsTrue (is_identifier text)
+  pub keys : All (λ key. IsTrue (is_identifier key)) texts
+
+-- where a name is wide, a later one is
+abbrev pub IsWideBehind : List ℕ → List ℕ → Type 0
+IsWideBehind first second = IsTrue (is_wide_name first) → IsTrue (is_wide_name second)

@@ -1,9 +1,9 @@
 -- The plan as contracts see it: names, keys, rules and levels by number.
-use Rattle.std.specs.Prelude.{◌≡◌, ℕ, suc, ◌<◌, ◌≤◌, ◌^◌, max, Bool, ◌==◌, List, [], ◌∷◌, ◌++◌, length, map, filter, fold, flat_map, slice_index_or, option_to_list, All, IsTrue}
+use Rattle.std.specs.Prelude.{◌≡◌, ℕ, suc, ◌<◌, ◌≤◌, ◌^◌, max, Bool, false, not, ◌&&◌, ◌==◌, List, [], ◌∷◌, ◌++◌, length, map, filter, fold, flat_map, slice_index_or, option_to_list, All, AllPairs, IsTrue}
 use Rattle.std.specs.List.{list_any, IsDistinct}
 use Rattle.std.specs.List.Sorted.{IsStrictlySortedBy}
 use Rattle.nf_core.specs.Texts.{text_cmp, text_eq, IsI64, IsPlain}
-use Rattle.nf_core.specs.Identifiers.{is_identifier}
+use Rattle.nf_core.specs.Identifiers.{is_wide_name, AreIdentifiers, IsWideBehind}
 use Rattle.nf_core.specs.Expressions.{reads_within, operators_of, numbers_of, texts_of}
 use Rattle.nf_core.specs.Kinds.{kind_of_term, is_condition, is_end_point, is_map_value}
 use Rattle.nf_core.specs.declared.limits.TheConstants.{MOST_OPERATORS}
@@ -20,6 +20,14 @@ pub record Plan : Type 0 where
   pub rules : List PlanRule
   pub levels : List ℕ
 
+-- the plan of these parts
+abbrev pub plan_from : List (List ℕ) → List (List (List ℕ)) → List PlanRule → List ℕ → Plan
+plan_from names keys rules levels = record { names = names; keys = keys; rules = rules; levels = levels }
+
+-- the text of a name
+abbrev pub name_of : Plan → ℕ → List ℕ
+name_of plan n = slice_index_or plan.names n []
+
 -- the keys of a name, ascending
 abbrev pub keys_of : Plan → ℕ → List (List ℕ)
 keys_of plan n = slice_index_or plan.keys n []
@@ -32,9 +40,17 @@ level_of plan n = slice_index_or plan.levels n 0
 abbrev pub rules_of : Plan → ℕ → List PlanRule
 rules_of plan n = filter (λ (rule : PlanRule). rule.head == n) plan.rules
 
--- whether a name is the head of a rule
+-- whether a rule has this name as its head
+abbrev pub has_rules : Plan → ℕ → Bool
+has_rules plan n = list_any (λ (rule : PlanRule). rule.head == n) plan.rules
+
+-- whether a name is wide
+abbrev pub is_wide : Plan → ℕ → Bool
+is_wide plan n = is_wide_name (name_of plan n)
+
+-- whether a name is a head: a rule has it as its head, and it isn't wide
 abbrev pub is_head : Plan → ℕ → Bool
-is_head plan n = list_any (λ (rule : PlanRule). rule.head == n) plan.rules
+is_head plan n = has_rules plan n && not (is_wide plan n)
 
 -- the second name of a body, where there is one
 abbrev pub second_name : Link → List ℕ
@@ -94,18 +110,22 @@ pub record IsRuleOf (plan : Plan) (rule : PlanRule) : Type 0 where
   pub stop : All (IsTermOver plan (result_names rule)) (option_to_list rule.stop)
   pub end_points : All (λ term. IsTrue (is_end_point (kind_of_term term))) (option_to_list rule.start ++ option_to_list rule.stop)
 
--- ascending, each once, fewer than 2^32 of them, and each an identifier
+-- ascending, each once, and fewer than 2^32 of them
 pub record AreKeys (keys : List (List ℕ)) : Type 0 where
   pub few : length keys < 2 ^ 32
   pub ascending : IsStrictlySortedBy text_cmp keys
-  pub identifiers : All (λ key. IsTrue (is_identifier key)) keys
 
--- what holds of every plan. That each name has its level by its rules makes them acyclic
+-- a name and its keys are identifiers, unless the name is wide
+abbrev pub IsWritable : Plan → ℕ → Type 0
+IsWritable plan n = is_wide plan n ≡ false → AreIdentifiers (name_of plan n) (keys_of plan n)
+
+-- what holds of every plan. Wide names come after all others; a name that isn't wide is an identifier, and so are its keys. That each name has its level by its rules makes them acyclic
 pub record IsPlan (plan : Plan) : Type 0 where
   pub few_names : length plan.names < 2 ^ 32
   pub few_rules : length plan.rules < 2 ^ 32
   pub distinct : IsDistinct text_eq plan.names
-  pub identifiers : All (λ name. IsTrue (is_identifier name)) plan.names
+  pub wide_last : AllPairs IsWideBehind plan.names
+  pub identifiers : (n : ℕ) → n < length plan.names → IsWritable plan n
   pub each_keys : length plan.keys ≡ length plan.names
   pub keys : All AreKeys plan.keys
   pub each_level : length plan.levels ≡ length plan.names

@@ -131,6 +131,11 @@ pub record Rule : Type 0 where
   pub start : Option expr.Expr
   pub stop : Option expr.Expr
 
+-- the rule of these parts
+abbrev pub rule_from : List ℕ → Body → Option expr.Expr → List Entry → Option expr.Expr → Option expr.Expr → Rule
+rule_from head body filter entries start stop =
+    record { head = head; body = body; filter = filter; entries = entries; start = start; stop = stop }
+
 -- the atoms of a body in reading order
 abbrev pub atoms_of : Body → List Atom
 atoms_of (body.One first) = first ∷ []

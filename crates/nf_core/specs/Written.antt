@@ -1,11 +1,11 @@
 -- What a plan takes from written rules: names, keys of a name, terms and levels.
-use Rattle.std.specs.Prelude.{◌≡◌, ℕ, suc, ℤ, ◌<◌, ◌^◌, List, [], ◌∷◌, ◌++◌, length, map, filter, fold, flat_map, option_map, unwrap_or, Option, Some, bytes_eq, All, IsTrue, if◌then◌else◌}
+use Rattle.std.specs.Prelude.{◌≡◌, ℕ, suc, ℤ, ◌<◌, ◌^◌, false, not, List, [], ◌∷◌, ◌++◌, length, map, filter, fold, flat_map, option_map, unwrap_or, Option, Some, bytes_eq, All, if◌then◌else◌}
 use Rattle.std.specs.List.{position_or_len}
 use Rattle.std.specs.Map.{lookup}
 use Rattle.indexmap.specs.IndexSet as distinct
 use Rattle.std.specs.BTreeSet as sorted
 use Rattle.nf_core.specs.Texts.{text_cmp, text_eq, IsI64, IsPlain}
-use Rattle.nf_core.specs.Identifiers.{is_identifier}
+use Rattle.nf_core.specs.Identifiers.{is_wide_name, AreIdentifiers}
 use Rattle.nf_core.specs.Plan.{Plan, greatest}
 use Rattle.nf_core.specs.Trees as tree
 use Rattle.nf_core.specs.Trees.{Tree, atoms_of, expressions_of}
@@ -41,9 +41,13 @@ names_read body = map (λ (atom : Atom). atom.name) (atoms_of body)
 abbrev pub names_in : Rule → List (List ℕ)
 names_in rule = rule.head ∷ names_read rule.body
 
--- names are numbered by first appearance in the rules, each head before its body
+-- the texts of wide names after all others
+abbrev pub wide_last : List (List ℕ) → List (List ℕ)
+wide_last texts = filter (λ text. not (is_wide_name text)) texts ++ filter is_wide_name texts
+
+-- names are numbered by first appearance in the rules, each head before its body, and wide names after all others
 abbrev pub names_of : List Rule → List (List ℕ)
-names_of rules = each_once (flat_map names_in rules)
+names_of rules = each_once (wide_last (flat_map names_in rules))
 
 -- the keys that a node reads under a label, given those that its operands read
 unfoldable pub keys_at_node : List ℕ → node.Expr-F (List (List ℕ)) → List (List ℕ)
@@ -218,13 +222,16 @@ HasPlainTexts rule = All (λ x. All IsPlain (texts_in (tree.tree x))) (expressio
 abbrev pub HasValueNumbers : Rule → Type 0
 HasValueNumbers rule = All (λ x. All IsI64 (numbers_in (tree.tree x))) (expressions_of rule)
 
--- rules of which a plan can be made: few enough, with identifiers for names and keys, with right kinds, with whole numbers that a value may be, and with plain texts
+-- a name of rules and its keys are identifiers, unless the name is wide
+abbrev pub IsWritableIn : List Rule → List ℕ → Type 0
+IsWritableIn rules name = is_wide_name name ≡ false → AreIdentifiers name (keys_of_name rules name)
+
+-- rules of which a plan can be made: few enough, with identifiers for the names that aren't wide and for their keys, with right kinds, with whole numbers that a value may be, and with plain texts
 pub record CanBePlanned (rules : List Rule) : Type 0 where
   pub few_rules : length rules < 2 ^ 32
   pub few_names : length (names_of rules) < 2 ^ 32
   pub few_keys : All (λ name. length (keys_of_name rules name) < 2 ^ 32) (names_of rules)
-  pub names : All (λ name. IsTrue (is_identifier name)) (names_of rules)
-  pub keys : All (λ name. All (λ key. IsTrue (is_identifier key)) (keys_of_name rules name)) (names_of rules)
+  pub identifiers : All (IsWritableIn rules) (names_of rules)
   pub kinds : All AreKindsRight rules
   pub numbers : All HasValueNumbers rules
   pub plain : All HasPlainTexts rules

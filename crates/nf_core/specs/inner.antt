@@ -1,3 +1,4 @@
 -- How the code works, no part of the meaning.
 pub mod Collected
 pub mod Numbered
+pub mod Widths

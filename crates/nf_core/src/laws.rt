@@ -1,6 +1,7 @@
 //! Laws of the definitions. Each function does nothing, and its contract is the law.
 
-ghost use Rattle.std.specs.Prelude.{◌≡◌, ℕ, ℤ, Bool, List};
+ghost use Rattle.std.specs.Prelude.{◌≡◌, ℕ, ℤ, Bool, false, List, IsTrue};
+ghost use Rattle.nf_core.specs.Identifiers.{is_identifier, is_wide_name};
 ghost use Rattle.nf_core.specs.Trees as trees;
 ghost use Rattle.nf_core.specs.Trees.{Tree, tree, expr_of};
 ghost use Rattle.nf_core.specs.declared.operators.BinOp.{BinOp};
@@ -13,6 +14,12 @@ ghost use Rattle.nf_core.specs.declared.trees.Expr.TheVariants as variant;
 pub fn trees_are_expressions()
     ensures expression { (x : Expr) → expr_of (tree x) ≡ x }
     ensures tree { (a : Tree) → tree (expr_of a) ≡ a }
+{}
+
+/// No identifier is the text of a wide name.
+#[tactic(auto, using(crate::proofs::Public::NameLemmas::identifier_is_not_wide))]
+pub fn identifiers_are_not_wide()
+    ensures { (text : List ℕ) → IsTrue (is_identifier text) → is_wide_name text ≡ false }
 {}
 
 /// The tree of an expression, by its parts.

@@ -35,11 +35,12 @@ mod text_sets;
 mod texts;
 mod trees;
 mod values;
+mod wide_names;
 
 pub use copies::TryCopy;
 pub use errors::NoMemory;
 pub use intervals::{Change, Delta, Interval, IntervalList, Named, NamedList};
-pub use laws::{trees_are_expressions, trees_by_parts};
+pub use laws::{identifiers_are_not_wide, trees_are_expressions, trees_by_parts};
 pub use limits::{MOST_OPEN, MOST_OPERATORS};
 pub use lines::Lines;
 pub use lists::ListOf;

@@ -1,7 +1,7 @@
 //! The plan.
 
-ghost use Rattle.std.specs.Prelude.{◌≡◌, ◌<◌, length, position, slice_get, bytes_eq, Some, All, IfOk};
-ghost use Rattle.nf_core.specs.Plan.{IsPlan, keys_of, is_head, level_of};
+ghost use Rattle.std.specs.Prelude.{◌≡◌, ◌<◌, length, position, slice_get, bytes_eq, Some, All, IfOk, IfSome};
+ghost use Rattle.nf_core.specs.Plan.{IsPlan, keys_of, has_rules, is_head, is_wide, level_of, name_of};
 ghost use Rattle.nf_core.specs.Written.{CanBePlanned, AreLevels, plan_of};
 
 use crate::copies::TryCopy;
@@ -15,6 +15,7 @@ use crate::plan_levels::Levels;
 use crate::terms::PlanRule;
 use crate::text_sets::TextSet;
 use crate::trees::RuleList;
+use crate::wide_names::is_wide_name;
 use std::alloc::Global;
 use std::marker::Model;
 
@@ -38,16 +39,18 @@ impl Model for Plan {
 
     ghost coded = { Prim.hlevel (codes, term.the_row.coded) };
 
-    ghost view = { λ p. record { names = p.names; keys = p.keys; rules = p.rules; levels = p.levels.items } };
+    ghost view = { λ p. spec.plan_from p.names p.keys p.rules p.levels.items };
 
-    ghost invariant = { λ p. spec.IsPlan (record { names = p.names; keys = p.keys; rules = p.rules; levels = p.levels.items }) };
+    ghost invariant = { λ p. spec.IsPlan (spec.plan_from p.names p.keys p.rules p.levels.items) };
 }
 
 impl Plan {
     /// The plan of rules with their levels (`plan_of` of specs/Written): names are numbered by first
-    /// appearance, each head before its body, the keys of a name ascend, and rules stay in their
-    /// order. The rules need names and keys that are identifiers, fewer than 2^32 of each, right
-    /// kinds, whole numbers within 64 bits and plain texts (`CanBePlanned`), and every name needs its level (`AreLevels`).
+    /// appearance, each head before its body, and wide names after all others; the keys of a name
+    /// ascend, and rules stay in their order. A name is wide where its text begins with `|`. The
+    /// names of the rules that aren't wide and the keys of these names are to be identifiers; there
+    /// are fewer than 2^32 names, keys of a name and rules, right kinds, whole numbers within 64 bits
+    /// and plain texts (`CanBePlanned`); and every name has its level (`AreLevels`).
     pub fn build(alloc: Global, rules: &RuleList, levels: &Levels) -> Result<Plan, NoMemory>
         requires planned { CanBePlanned rules.now }
         requires leveled { AreLevels rules.now levels.now }
@@ -99,10 +102,27 @@ impl Plan {
         self.keys.as_slice()[name as usize].at(place as usize)
     }
 
-    /// Whether a name is the head of a rule: exactly then its level is above 0.
+    /// Whether a name is wide: whether its text begins with `|` (`is_wide` of specs/Plan).
+    pub fn is_wide(&self, name: u32) -> bool
+        requires { name < length self.now.names }
+        ensures { result ≡ is_wide self.now name }
+    {
+        is_wide_name(self.name(name))
+    }
+
+    /// Whether a name is a head: a rule has it as its head, and it isn't wide (`is_head` of
+    /// specs/Plan).
     pub fn is_head(&self, name: u32) -> bool
         requires { name < length self.now.names }
         ensures { result ≡ is_head self.now name }
+    {
+        self.has_rules(name) && !self.is_wide(name)
+    }
+
+    /// Whether a rule has this name as its head: exactly then its level is above 0.
+    fn has_rules(&self, name: u32) -> bool
+        requires { name < length self.now.names }
+        ensures { result ≡ has_rules self.now name }
     {
         self.levels[name as usize] > 0
     }
@@ -134,8 +154,10 @@ impl Plan {
     }
 
     /// The number of a name. None exactly where no name is that text.
+    #[tactic(auto, using(crate::proofs::Public::EachOnceLemmas::text_found))]
     pub fn find(&self, text: &str) -> Option<u32>
-        ensures { result ≡ position (bytes_eq text.now) self.now.names }
+        ensures place { result ≡ position (bytes_eq text.now) self.now.names }
+        ensures name { IfSome result (λ name. name_of self.now name ≡ text.now) }
     {
         let place = self.names.find(text)?;
         Some(place as u32)

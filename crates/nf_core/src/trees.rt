@@ -71,11 +71,19 @@ impl Model for Rule {
 
     ghost coded = { Prim.hlevel (codes, expr.the_row.coded) };
 
-    ghost view = { λ r. record { head = r.head; body = r.body; filter = r.filter; entries = r.entries; start = r.start; stop = r.stop } };
+    ghost view = { λ r. spec.rule_from r.head r.body r.filter r.entries r.start r.stop };
 
-    ghost invariant = { λ r. spec.IsRule (record { head = r.head; body = r.body; filter = r.filter; entries = r.entries; start = r.start; stop = r.stop }) };
+    ghost invariant = { λ r.
+        spec.IsRule (spec.rule_from r.head r.body r.filter r.entries r.start r.stop) };
 
-    ghost inverse = { λ r. record { head = r.head; body = r.body; filter = r.filter; entries = r.entries; start = r.start; stop = r.stop } };
+    ghost inverse = { λ r. record {
+      head = r.head;
+      body = r.body;
+      filter = r.filter;
+      entries = r.entries;
+      start = r.start;
+      stop = r.stop;
+    } };
 }
 
 impl Rule {

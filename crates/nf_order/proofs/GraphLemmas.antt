@@ -10,7 +10,7 @@ use Rattle.nf_core.specs.Texts.{text_eq}
 use Rattle.nf_core.specs.Trees.{Rule}
 use Rattle.nf_core.specs.Written.{names_of, names_in, names_below, place_of}
 use Rattle.nf_core.proofs.Public.EachOnceLemmas.{place_of-lt, place_of-eq}
-use Rattle.nf_core.proofs.Public.PlanLemmas.{known_names}
+use Rattle.nf_core.proofs.Public.NameLemmas.{known_names}
 use Rattle.nf_order.specs.inner.Graph.{IsGraph, numbers_below, graph_of}
 use Rattle.nf_order.proofs.WalkLemmas.{names_read_by, reads_from_below, read_known}
 

@@ -4,8 +4,9 @@ use Rattle.std.specs.List.{IsDistinct, AllByRecursion, count_by}
 use Rattle.std.proofs.lemmas.Map.Keys.{IsDistinct-head, IsDistinct-tail}
 use Rattle.nf_core.specs.Texts.{text_eq}
 use Rattle.nf_core.specs.Trees.{Rule}
-use Rattle.nf_core.specs.Written.{names_of, names_in, place_of}
-use Rattle.nf_core.proofs.Public.EachOnceLemmas.{same, IsDistinct-each_once}
+use Rattle.nf_core.specs.Written.{names_of, place_of}
+use Rattle.nf_core.proofs.Public.EachOnceLemmas.{same}
+use Rattle.nf_core.proofs.Public.NameLemmas.{IsDistinct-names_of}
 use Rattle.nf_order.specs.inner.Graph.{graph_of, heads, is_filled, numbers_below}
 use Rattle.nf_order.proofs.CountLemmas.{counts_next}
 use Rattle.nf_order.proofs.WalkLemmas.{names_read_by}
@@ -67,4 +68,4 @@ few_filled names ns distinct [] = omega (arith, no_rules names ns)
 few_filled names ns distinct (rule ∷ rules) = omega (arith, one_more_rule names rule rules ns, one_is rule.head ns distinct, few_filled names ns distinct rules)
 
 pub few_heads : (rules : List Rule) → heads (graph_of rules) ≤ length rules
-few_heads rules = few_filled (names_of rules) (names_of rules) (IsDistinct-each_once (flat_map names_in rules)) rules
+few_heads rules = few_filled (names_of rules) (names_of rules) (IsDistinct-names_of rules) rules

@@ -1,12 +1,12 @@
 -- Levels of the same names that agree name by name are one list.
-use Rattle.std.proofs.Common.{◌≡◌, ℕ, suc, false, cond, List, [], ◌∷◌, length, get_or, map, flat_map, All, bytes_eq, Some, refl, sym, ap, ◌∙◌, arith}
+use Rattle.std.proofs.Common.{◌≡◌, ℕ, suc, false, cond, List, [], ◌∷◌, length, get_or, map, All, bytes_eq, Some, refl, sym, ap, ◌∙◌, arith}
 use Rattle.std.specs.List.{IsDistinct}
 use Rattle.std.specs.Cmp.Lexicographic.{nat_list_eq_equiv}
 use Rattle.std.proofs.lemmas.Map.Keys.{IsDistinct-tail}
 use Rattle.nf_core.specs.Texts.{text_eq}
 use Rattle.nf_core.specs.Trees.{Rule}
-use Rattle.nf_core.specs.Written.{Levels, names_of, names_in, level_of_name, AreLevels}
-use Rattle.nf_core.proofs.Public.EachOnceLemmas.{IsDistinct-each_once}
+use Rattle.nf_core.specs.Written.{Levels, names_of, level_of_name, AreLevels}
+use Rattle.nf_core.proofs.Public.NameLemmas.{IsDistinct-names_of}
 use Rattle.nf_order.proofs.NamedLevelLemmas.{apart}
 use Rattle.nf_order.proofs.WalkLemmas.{levels_agree}
 
@@ -42,4 +42,4 @@ agreeing (n ∷ names) (x ∷ a) (y ∷ b) distinct of_a of_b each =
 
 -- so rules have at most one list of levels in the order of their names
 pub same_levels : (rules : List Rule) (a b : Levels) → map (λ (l : List ℕ × ℕ). l.0) a ≡ names_of rules → map (λ (l : List ℕ × ℕ). l.0) b ≡ names_of rules → AreLevels rules a → AreLevels rules b → a ≡ b
-same_levels rules a b of_a of_b leveled_a leveled_b = agreeing (names_of rules) a b (IsDistinct-each_once (flat_map names_in rules)) of_a of_b (levels_agree rules a b leveled_a leveled_b)
+same_levels rules a b of_a of_b leveled_a leveled_b = agreeing (names_of rules) a b (IsDistinct-names_of rules) of_a of_b (levels_agree rules a b leveled_a leveled_b)

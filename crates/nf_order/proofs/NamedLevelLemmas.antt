@@ -1,5 +1,5 @@
 -- Levels by number as levels by name.
-use Rattle.std.proofs.Common.{◌≡◌, ℕ, zero, suc, ◌<◌, false, cond, List, [], ◌∷◌, length, get_or, map, flat_map, Contains, bytes_eq, unwrap_or, Some, refl, sym, ap, ◌∙◌, arith}
+use Rattle.std.proofs.Common.{◌≡◌, ℕ, zero, suc, ◌<◌, false, cond, List, [], ◌∷◌, length, get_or, map, Contains, bytes_eq, unwrap_or, Some, refl, sym, ap, ◌∙◌, arith}
 use Rattle.std.specs.List.{IsDistinct, zip}
 use Rattle.std.specs.Map.{lookup}
 use Rattle.std.specs.Cmp.Lexicographic.{nat_list_eq_equiv}
@@ -10,8 +10,9 @@ use Rattle.std.proofs.lemmas.Simd.{map-map}
 use Rattle.nf_core.specs.Plan.{greatest}
 use Rattle.nf_core.specs.Texts.{text_eq}
 use Rattle.nf_core.specs.Trees.{Rule}
-use Rattle.nf_core.specs.Written.{Levels, names_of, names_in, names_below, place_of, level_of_name, AreLevels}
-use Rattle.nf_core.proofs.Public.EachOnceLemmas.{IsDistinct-each_once, place_of-lt, get_or-place_of}
+use Rattle.nf_core.specs.Written.{Levels, names_of, names_below, place_of, level_of_name, AreLevels}
+use Rattle.nf_core.proofs.Public.EachOnceLemmas.{place_of-lt, get_or-place_of}
+use Rattle.nf_core.proofs.Public.NameLemmas.{IsDistinct-names_of}
 use Rattle.nf_order.specs.Dependence.{leveled_names}
 use Rattle.nf_order.specs.inner.Graph.{graph_of, numbers_below}
 use Rattle.nf_order.specs.inner.Marks.{level_in, level_at, level_over, HasLevel, AreMarks}
@@ -54,7 +55,7 @@ module _ (rules : List Rule) (marks : List Mark) (hold : AreMarks (graph_of rule
   same_length = sym each ∙ sym hold.each ∙ sym (length-map marks level_in)
 
   distinct : IsDistinct text_eq names
-  distinct = IsDistinct-each_once (flat_map names_in rules)
+  distinct = IsDistinct-names_of rules
 
   level_is : (k : ℕ) (d : List ℕ) → k < length names → level_of_name levels (get_or names k d) ≡ Some (level_at marks k)
   level_is k d h =

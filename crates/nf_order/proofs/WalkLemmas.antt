@@ -1,5 +1,5 @@
 -- Walks fall in level, so what has levels has no cycle, and there is one answer.
-use Rattle.std.proofs.Common.{◌≡◌, ℕ, zero, suc, ◌<◌, ◌≤◌, List, get_or, map, flat_map, Some, All, Contains, bytes_eq, unwrap_or, sym, ap, subst, ◌∙◌, inl, inr, arith, length-take}
+use Rattle.std.proofs.Common.{◌≡◌, ℕ, zero, suc, ◌<◌, ◌≤◌, List, get_or, map, Some, All, Contains, bytes_eq, unwrap_or, sym, ap, subst, ◌∙◌, inl, inr, arith, length-take}
 use Rattle.std.specs.Cmp.Lexicographic.{nat_list_eq_equiv}
 use Rattle.std.proofs.lemmas.Bool.{cases_lt}
 use Rattle.std.proofs.lemmas.List.{get_or-take}
@@ -7,7 +7,8 @@ use Rattle.std.proofs.lemmas.List.Elements.{All-contains, Contains-get_or}
 use Rattle.nf_core.specs.Plan.{greatest}
 use Rattle.nf_core.specs.Trees.{Rule}
 use Rattle.nf_core.specs.Written.{Levels, names_of, names_read, names_in, names_below, level_of_name, IsLevelOf, AreLevels}
-use Rattle.nf_core.proofs.Public.EachOnceLemmas.{same, Contains-each_once}
+use Rattle.nf_core.proofs.Public.EachOnceLemmas.{same}
+use Rattle.nf_core.proofs.Public.NameLemmas.{Contains-names_of}
 use Rattle.nf_lemmas.proofs.ListLemmas.{Contains-flat_map, Contains-map}
 use Rattle.nf_order.specs.Dependence.{Walk, Reads, DependsOn, IsAcyclic, IsFirstCycle}
 use Rattle.nf_order.specs.Dependence.Walk.{Last, More}
@@ -39,12 +40,12 @@ module _ (rules : List Rule) where
 
   -- the names of a rule are names of the rules
   pub head_known : (rule : Rule) → Contains rules rule → Contains (names_of rules) rule.head
-  head_known rule there = Contains-each_once (flat_map names_in rules) rule.head (Contains-flat_map names_in rules rule rule.head there (Contains-first rule.head (names_read_by rule)))
+  head_known rule there = Contains-names_of rules rule.head (Contains-flat_map names_in rules rule rule.head there (Contains-first rule.head (names_read_by rule)))
 
   pub read_known : (head name : List ℕ) → Reads rules head name → Contains (names_of rules) head × Contains (names_of rules) name
   read_known head name (k, x, h, is, (e, c)) = (
     subst (Contains (names_of rules)) e (head_known x (k, h, is)),
-    Contains-each_once (flat_map names_in rules) name (Contains-flat_map names_in rules x name (k, h, is) (Contains-later x.head (names_read_by x) name c)),
+    Contains-names_of rules name (Contains-flat_map names_in rules x name (k, h, is) (Contains-later x.head (names_read_by x) name c)),
   )
 
 abbrev level : Levels → List ℕ → ℕ

@@ -16,7 +16,7 @@ use nf_core::{Levels, Names, NoMemory, RuleList, Text};
 use std::alloc::Global;
 
 /// The level of each name of some rules (`AreLevels` of nf_core's specs/Written.antt), names in the
-/// order in which they first appear. `Cycle` with the first head, in the order of the rules, that
+/// order of their numbers in a plan. `Cycle` with the first head, in the order of the rules, that
 /// depends on itself (`IsFirstCycle` of specs/Dependence.antt), exactly where there is one.
 pub fn levels(alloc: Global, rules: &RuleList) -> Result<Levels, OrderFault>
     requires few { length rules.now < 2 ^ 32 }

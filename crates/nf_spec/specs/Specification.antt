@@ -1,7 +1,8 @@
 -- What the sources of a specification define, under a root or without one: a plan with the selected rules and the levels of their names, or one refusal.
-use Rattle.std.specs.Prelude.{◌≡◌, ◌⊎◌, ℕ, suc, ◌<◌, ◌≤◌, List, [], ◌∷◌, Option, Some, None, Result, Ok, Err}
+use Rattle.std.specs.Prelude.{◌≡◌, ◌⊎◌, ℕ, suc, ◌<◌, ◌≤◌, List, [], ◌∷◌, Option, Some, None, Result, Ok, Err, false, All, IsTrue}
 use Rattle.nf_core.specs.Trees.{Rule}
-use Rattle.nf_core.specs.Plan.{Plan}
+use Rattle.nf_core.specs.Identifiers.{is_identifier}
+use Rattle.nf_core.specs.Plan.{Plan, is_wide}
 use Rattle.nf_core.specs.Written.{Levels, plan_of, names_of, AreLevels}
 use Rattle.nf_core.specs.declared.trees.Module.{Module}
 use Rattle.nf_modules.specs.Selection.{Selects}
@@ -55,7 +56,12 @@ kind_fault rules = kind_fault_from 1 rules
 abbrev pub rules_of_plan : List Rule → List Rule
 rules_of_plan selected = selected
 
--- the levels of the names that rules mention, in the order in which the names first appear
+-- every name of a plan is an identifier, so none is wide
+pub record HasIdentifiers (plan : Plan) : Type 0 where
+  pub names : All (λ name. IsTrue (is_identifier name)) plan.names
+  pub narrow : (n : ℕ) → is_wide plan n ≡ false
+
+-- the levels of the names that rules mention, in the order of the names' numbers
 pub record AreLevelsInOrder (rules : List Rule) (levels : Levels) : Type 0 where
   pub each_level : AreLevels rules levels
   pub named : leveled_names levels ≡ names_of rules

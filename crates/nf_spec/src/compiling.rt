@@ -5,7 +5,7 @@ ghost use Rattle.std.specs.Option.{option_copied};
 ghost use Rattle.nf_core.specs.Trees.{IsWritten};
 ghost use Rattle.nf_parse.specs.Answers.{rules_in, size_of};
 ghost use Rattle.nf_spec.specs.Sources.{specification_limit};
-ghost use Rattle.nf_spec.specs.Specification.{OrNoMemory, Specifies, SpecifiesFrom};
+ghost use Rattle.nf_spec.specs.Specification.{HasIdentifiers, OrNoMemory, Specifies, SpecifiesFrom};
 
 use crate::fault::SpecFault;
 use crate::parsing::parse_sources;
@@ -33,12 +33,14 @@ pub struct Compiled {
 /// Lex, or else Grammar or TooDeep, with the line of the token where the file stops being one or of its end
 /// (`IsRefused` of nf_parse); SameModule and NoModule; Kinds at the first selected rule, counted from 1,
 /// whose kinds aren't right; Cycle at the first head that depends on itself. NoMemory may come from any
-/// call. Every rule that is answered can be written, so that it can be printed.
+/// call. Every rule that is answered can be written, so that it can be printed, and every name of the
+/// plan is an identifier, so none is wide.
 #[tactic(auto, using(crate::proofs::SpecifiedLemmas::past_limit, crate::proofs::SpecifiedLemmas::no_modules, crate::proofs::SpecifiedLemmas::from_modules))]
 pub fn compile(alloc: Global, files: &SourceList, root: Option<&str>) -> Result<Compiled, SpecFault>
     requires { length files.now < 2 ^ 32 }
     ensures specifies { OrNoMemory (Specifies files.now (option_copied root.entry)) result }
     ensures written { IfOk result (λ compiled. All IsWritten compiled.rules) }
+    ensures identifiers { IfOk result (λ compiled. HasIdentifiers compiled.plan) }
 {
     if files.are_too_long() {
         return Err(SpecFault::TooLong);
@@ -58,6 +60,7 @@ fn compile_modules(
     requires written { All IsWritten (rules_in modules.now) }
     ensures specifies { OrNoMemory (SpecifiesFrom modules.now (option_copied root.entry)) result }
     ensures written { IfOk result (λ compiled. All IsWritten compiled.rules) }
+    ensures identifiers { IfOk result (λ compiled. HasIdentifiers compiled.plan) }
 {
     trees_are_expressions();
     let rules = select_rules(alloc, modules, root)?;

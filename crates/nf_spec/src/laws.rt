@@ -1,6 +1,7 @@
-//! Laws of the definitions. The function does nothing, and its contract is the law.
+//! Laws of the definitions. Each function does nothing, and its contract is the law.
 
 ghost use Rattle.std.specs.Prelude.{◌≡◌, ◌<◌, ℕ, List, Option, Err};
+ghost use Rattle.nf_core.specs.declared.limits.TheConstants.{MOST_OPEN, MOST_OPERATORS};
 ghost use Rattle.nf_lex.specs.declared.fault.LexFault.TheVariants as lexical;
 ghost use Rattle.nf_spec.specs.Sources.{specification_limit, total};
 ghost use Rattle.nf_spec.specs.Specification.{Answer, Specifies};
@@ -29,3 +30,11 @@ pub fn every_specification_has_one_answer()
     selection_is_one();
     one_order();
 }
+
+/// The limits of a specification in figures: all its sources together have at most 1,048,576 bytes, and an
+/// expression at most 256 operators, and at most 64 parentheses open at once.
+pub fn limits_in_figures()
+    ensures bytes { specification_limit ≡ 1048576 }
+    ensures operators { MOST_OPERATORS ≡ 256 }
+    ensures parens { MOST_OPEN ≡ 64 }
+{}

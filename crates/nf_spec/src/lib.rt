@@ -2,7 +2,7 @@
 //! specs/Specification.antt.
 //!
 //! `compile` answers the plan of the selected rules, with these rules and the levels of their names, or
-//! the first refusal; `every_specification_has_one_answer` says that there is one such answer. `sources`
+//! the first refusal; `every_specification_has_one_answer` says that there is one such answer, and `limits_in_figures` what its limits are. `sources`
 //! holds the bytes, `limits` how many they may be, `parsing` reads them file by file, `selecting` selects
 //! and judges the rules, and `compiling` puts the parts together. Below stand the crates of the parts:
 //! nf_parse, nf_modules, nf_typing and nf_order; above stands the program, which reads the files.
@@ -18,6 +18,6 @@ mod sources;
 
 pub use compiling::{Compiled, compile};
 pub use fault::SpecFault;
-pub use laws::every_specification_has_one_answer;
+pub use laws::{every_specification_has_one_answer, limits_in_figures};
 pub use limits::SPECIFICATION_LIMIT;
 pub use sources::SourceList;

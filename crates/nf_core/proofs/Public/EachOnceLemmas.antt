@@ -1,6 +1,6 @@
 -- Texts each once in the order in which they first appear: none is missing, none stands twice, and the place of one that
 -- is there leads to it.
-use Rattle.std.proofs.Common.{◌≡◌, ℕ, ◌<◌, ◌≤◌, ◌==◌, Bool, true, false, List, [], ◌∷◌, ◌++◌, length, get_or, Contains, bytes_eq, refl, sym, ap, subst, ◌∙◌, ◌⊎◌, inl, inr, position, nat_lt, Some, None, true≢false, if◌then◌else◌, arith}
+use Rattle.std.proofs.Common.{◌≡◌, ℕ, ◌<◌, ◌≤◌, ◌==◌, Bool, true, false, List, [], ◌∷◌, ◌++◌, length, get_or, Contains, bytes_eq, refl, sym, ap, subst, ◌∙◌, ◌⊎◌, inl, inr, position, nat_lt, Some, None, true≢false, if◌then◌else◌, arith, cond, rules}
 use Rattle.std.specs.List.{list_any, IsDistinct}
 use Rattle.std.specs.Cmp.Lexicographic.{bytes_decides, nat_list_eq_equiv}
 use Rattle.std.proofs.lemmas.Bool.{cases_lt, eq-eqb, ne_eqb, lt-ltb, cond-true}
@@ -86,3 +86,14 @@ module _ (names : List (List ℕ)) (t : List ℕ) (there : Contains names t) whe
       by : (b : Bool) → bytes_eq t (get_or names n []) ≡ b → (place_of names t == n) ≡ b
       by true e = eq-eqb _ n (here (same t _ e))
       by false e = ne_eqb _ n (λ p. true≢false (sym (ap (bytes_eq t) (sym (ap (λ m. get_or names m []) p) ∙ get_or-place_of []) ∙ nat_list_eq_equiv.refl t) ∙ e))
+
+-- the text at the place that a search finds is the one that is searched
+pub text_found : (names : List (List ℕ)) (t : List ℕ) (n : ℕ) → position (bytes_eq t) names ≡ Some n → get_or names n [] ≡ t
+text_found names t n is = by (nat_lt (place_of names t) (length names)) refl is
+  where
+    by : (b : Bool) → nat_lt (place_of names t) (length names) ≡ b → cond b (Some (place_of names t)) None ≡ Some n → get_or names n [] ≡ t
+    by true e found =
+        let at : place_of names t ≡ n = cc in
+        let within : place_of names t < length names = search (rules, e) in
+        sym (same t _ (subst (λ m. bytes_eq t (get_or names m []) ≡ true) at (passes_at_first (bytes_eq t) names [] within)))
+    by false e found = absurd cc

@@ -1,24 +1,20 @@
 -- The plan of some rules with their levels is a plan.
-use Rattle.std.proofs.Common.{◌≡◌, ℕ, suc, ◌<◌, ◌==◌, Bool, true, false, cond, List, [], ◌∷◌, ◌++◌, length, get_or, map, filter, flat_map, All, Contains, bytes_eq, unwrap_or, refl, sym, ap, ◌∙◌}
+use Rattle.std.proofs.Common.{◌≡◌, ℕ, suc, ◌<◌, ◌==◌, Bool, true, false, cond, List, [], ◌∷◌, ◌++◌, length, get_or, map, filter, flat_map, All, Contains, bytes_eq, unwrap_or, refl, sym, ap, subst, ◌∙◌}
 use Rattle.std.specs.List.{AllByRecursion}
 use Rattle.std.proofs.lemmas.List.{length-map, map-append, get_or-map}
 use Rattle.std.proofs.lemmas.List.Elements.{recursion_from_All, All-map, Contains-get_or}
-use Rattle.nf_core.specs.Plan.{Plan, IsPlan, IsRuleOf, AreKeys, level_of, level_by_rules, body_names, greatest}
+use Rattle.nf_core.specs.Identifiers.{AreIdentifiers}
+use Rattle.nf_core.specs.Plan.{Plan, IsPlan, IsRuleOf, IsWritable, AreKeys, level_of, level_by_rules, body_names, greatest}
 use Rattle.nf_core.specs.Trees.{atoms_of, IsRule}
-use Rattle.nf_core.specs.Written.{Levels, names_in, names_of, keys_read_in, keys_mapped_in, keys_of_name, plan_rule, level_of_name, plan_of, AreLevels, CanBePlanned}
+use Rattle.nf_core.specs.Written.{Levels, names_of, keys_read_in, keys_mapped_in, keys_of_name, plan_rule, level_of_name, plan_of, AreLevels, CanBePlanned}
 use Rattle.nf_core.specs.declared.trees.Body.{Body}
 use Rattle.nf_core.specs.declared.trees.Rule.{Rule}
 use Rattle.nf_core.specs.declared.terms.PlanRule.{PlanRule}
-use Rattle.nf_core.proofs.Public.EachOnceLemmas.{Contains-each_once, IsDistinct-each_once, place_of-eq}
+use Rattle.nf_core.proofs.Public.EachOnceLemmas.{place_of-eq}
+use Rattle.nf_core.proofs.Public.NameLemmas.{known_names, IsDistinct-names_of, IsWideBehind-names_of}
 use Rattle.nf_core.proofs.Public.AscendingLemmas.{IsStrictlySortedBy-ascending}
-use Rattle.nf_lemmas.proofs.ListLemmas.{Contains-flat_map}
 use Rattle.nf_core.proofs.NameNumberLemmas.{level-place_of, names_at, numbers_at, map-numbers_at}
 use Rattle.nf_core.proofs.PlanRuleLemmas.{IsRuleOf-plan_rule}
-
--- the names of a rule are among those of the rules
-pub known_names : (rules : List Rule) (rule : Rule) → Contains rules rule → AllByRecursion (Contains (names_of rules)) (names_in rule)
-known_names rules rule there = recursion_from_All _ (names_in rule) (λ k d h.
-    Contains-each_once (flat_map names_in rules) (get_or (names_in rule) k d) (Contains-flat_map names_in rules rule (get_or (names_in rule) k d) there (Contains-get_or (names_in rule) k d h)))
 
 -- what is read of the items that pass a test, and of their images, is the same where each item and its image pass alike and
 -- give the same
@@ -58,16 +54,20 @@ module _ (rules : List Rule) (levels : Levels) (planned : CanBePlanned rules) (l
       (λ (r : Rule). names_at rules levels r.body) (λ m. suc (level_of plan m)) (λ name. suc (level name)) rules
       (recursion_from_All _ rules (λ k d within.
       let known = known_names rules (get_or rules k d) (Contains-get_or rules k d within) in
-      (place_of-eq names (get_or rules k d).head known.0 (IsDistinct-each_once (flat_map names_in rules)) n h, levels_at (get_or rules k d).body known.1)))))
+      (place_of-eq names (get_or rules k d).head known.0 (IsDistinct-names_of rules) n h, levels_at (get_or rules k d).body known.1)))))
+
+  writable : (n : ℕ) → n < length names → IsWritable plan n
+  writable n h narrow = subst (AreIdentifiers (get_or names n [])) (sym (get_or-map (keys_of_name rules) names n [] [] h)) (planned.identifiers n [] h narrow)
 
   pub IsPlan-plan_of : IsPlan (plan_of rules levels)
   IsPlan-plan_of = record {
     few_names = planned.few_names;
     few_rules = rw length-map planned.few_rules;
-    distinct = IsDistinct-each_once (flat_map names_in rules);
-    identifiers = planned.names;
+    distinct = IsDistinct-names_of rules;
+    wide_last = IsWideBehind-names_of rules;
+    identifiers = writable;
     each_keys = length-map names (keys_of_name rules);
-    keys = All-map AreKeys (keys_of_name rules) names (λ k d h. record { few = planned.few_keys k d h; ascending = IsStrictlySortedBy-ascending (flat_map (λ rule. flat_map (keys_read_in (get_or names k d) rule) (atoms_of rule.body) ++ keys_mapped_in (get_or names k d) rule) rules); identifiers = planned.keys k d h });
+    keys = All-map AreKeys (keys_of_name rules) names (λ k d h. record { few = planned.few_keys k d h; ascending = IsStrictlySortedBy-ascending (flat_map (λ rule. flat_map (keys_read_in (get_or names k d) rule) (atoms_of rule.body) ++ keys_mapped_in (get_or names k d) rule) rules) });
     each_level = length-map names level;
     levels = level_is;
     rules = All-map (IsRuleOf plan) (plan_rule rules) rules (λ k d h. is_rule (get_or rules k d) (Contains-get_or rules k d h));

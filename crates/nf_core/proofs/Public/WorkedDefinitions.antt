@@ -1,5 +1,5 @@
 -- The definitions computed on worked cases. What is expected was worked out by hand from the rules.
-use Rattle.std.specs.Prelude.{◌≡◌, refl, ℕ, zero, suc, ◌<◌, nat_lt, slice_index, All, IsTrue, ℤ, pos, negsuc, Bool, true, false, List, [], ◌∷◌, map, Option, Some, None, codes}
+use Rattle.std.specs.Prelude.{◌≡◌, refl, ℕ, zero, suc, ◌<◌, nat_lt, slice_index, All, AllPairs, IsTrue, ℤ, pos, negsuc, Bool, true, false, List, [], ◌∷◌, map, Option, Some, None, codes}
 use Rattle.std.specs.List.{range_with_len, IsDistinct}
 use Rattle.std.specs.List.Sorted.{IsStrictlySortedBy}
 use mathlib.Core.Path.{sym, ap, ◌∙◌}
@@ -8,11 +8,11 @@ use Rattle.nf_core.specs.Sets.{once}
 use Rattle.nf_core.specs.Relations.{holds, span, blocks}
 use Rattle.nf_core.specs.Texts.{int_least, int_greatest, IsI64, IsPlain}
 use Rattle.nf_core.specs.Expressions.{reads_within, reads_within_node, operators_of, operators_of_node, numbers_of, numbers_at_node, texts_of, texts_at_node, value_of, value_of_node, binary, negated, inverted, of_ints, of_bools, in_range, member}
-use Rattle.nf_core.specs.Identifiers.{is_identifier, has_name_form, keywords}
+use Rattle.nf_core.specs.Identifiers.{is_identifier, is_wide_name, has_name_form, keywords, IsWideBehind}
 use Rattle.std.proofs.Common.{arith, rules, tests}
 use Rattle.std.proofs.lemmas.List.Elements.{All-nil, All-cons, All-from_recursion}
 use Rattle.nf_core.specs.Kinds.{kind_of_term, kind_of_node, kind_of_binary, is_condition}
-use Rattle.nf_core.specs.Plan.{Plan, IsPlan, AreKeys, IsTermOver, IsEntryOf, IsRuleOf, body_names, result_names, widths_of_names, level_of, level_by_rules}
+use Rattle.nf_core.specs.Plan.{Plan, IsPlan, IsWritable, AreKeys, IsTermOver, IsEntryOf, IsRuleOf, body_names, result_names, widths_of_names, level_of, level_by_rules, is_head, is_wide, plan_from}
 use Rattle.nf_core.specs.Trees as tree
 use Rattle.nf_core.specs.Trees.{Tree, operators, open_parens, level, op_level, left_in_parens, right_in_parens, operand_in_parens}
 use Rattle.nf_core.specs.Written.{names_of, keys_read, keys_at_node, keys_of_name, term_of, term_at_node, plan_of, Levels, IsLevelOf, AreLevels}
@@ -26,6 +26,7 @@ use Rattle.nf_core.specs.declared.operators.BinOp.{BinOp}
 use Rattle.nf_core.specs.declared.operators.BinOp.TheVariants as op
 use Rattle.nf_core.specs.declared.terms.Term.{Term}
 use Rattle.nf_core.specs.declared.terms.Term.TheVariants as t
+use Rattle.nf_core.specs.declared.terms.Link.{Link}
 use Rattle.nf_core.specs.declared.terms.Link.TheVariants as link
 use Rattle.nf_core.specs.declared.terms.PlanRule.{PlanRule}
 use Rattle.nf_core.specs.declared.trees.Expr.{Expr, Expr-F, fold-Expr, fold-roll-Expr}
@@ -33,7 +34,9 @@ use Rattle.nf_core.specs.declared.trees.Expr.TheOpen as x
 use Rattle.nf_core.specs.declared.trees.Expr.TheVariants as e
 use Rattle.nf_core.specs.declared.trees.Rule.{Rule}
 use Rattle.nf_core.specs.declared.trees.Atom.{Atom}
+use Rattle.nf_core.specs.declared.trees.Body.{Body}
 use Rattle.nf_core.specs.declared.trees.Body.TheVariants as body
+use Rattle.nf_core.proofs.Public.NameLemmas.{IsNarrow, IsWide, wide_behind}
 use Rattle.nf_core.proofs.TermFoldLemmas.{fold_Bool, fold_Int, fold_Start, fold_Stop, fold_Key, fold_Neg, fold_Not, fold_Bin}
 
 -- ---- the equations of folds over terms and over expressions
@@ -254,20 +257,22 @@ rover_plan = record {
 }
 
 the_names : names_of rover ≡ rover_plan.names
+unfolding is_wide_name
 the_names = refl
 
 the_keys : map (keys_of_name rover) (names_of rover) ≡ rover_plan.keys
-unfolding keys_read keys_at_node
+unfolding is_wide_name keys_read keys_at_node
 the_keys = simp exprs
 
 the_plan : plan_of rover rover_levels ≡ rover_plan
-unfolding keys_read keys_at_node term_of term_at_node
+unfolding is_wide_name keys_read keys_at_node term_of term_at_node
 the_plan = simp exprs
 
 the_levels : map (level_by_rules rover_plan) (range_with_len 0 6) ≡ rover_plan.levels
 the_levels = refl
 
 levels_of_names : AreLevels rover rover_levels
+unfolding is_wide_name
 levels_of_names = All-from_recursion (IsLevelOf rover rover_levels) (names_of rover) (refl, (refl, (refl, (refl, (refl, (refl, tt))))))
 
 -- w :- x:a unless contain y:a where y.k = x.j map { z -> x.j, b -> 2 } begin x.p end x.q: keys go by their bytes, members by their atoms
@@ -285,7 +290,7 @@ two_keys : plan_of (record {
       levels = 1 ∷ 0 ∷ [];
       rules = record { head = 0; keys = 2; first = 1; link = link.Unless Contain 1; filter = Some (t.Bin op.Eq (t.Key 1 1) (t.Key 0 0)); entries = record { place = 1; value = t.Key 0 0 } ∷ record { place = 0; value = t.Int (pos 2) } ∷ []; start = Some (t.Key 0 2); stop = Some (t.Key 0 3) } ∷ [];
     }
-unfolding keys_read keys_at_node term_of term_at_node
+unfolding is_wide_name keys_read keys_at_node term_of term_at_node
 two_keys = simp exprs
 
 -- it is a plan
@@ -299,12 +304,33 @@ rover_levelled (suc (suc (suc (suc (suc zero))))) l = refl
 rover_levelled (suc (suc (suc (suc (suc (suc n)))))) l = omega arith
 
 one_key : AreKeys (count ∷ [])
-unfolding is_identifier has_name_form keywords IsStrictlySortedBy
-one_key = record { few = omega arith; ascending = (tt, tt); identifiers = All-from_recursion (λ key. IsTrue (is_identifier key)) (count ∷ []) (refl, tt) }
+unfolding IsStrictlySortedBy
+one_key = record { few = omega arith; ascending = (tt, tt) }
 
 no_key : AreKeys []
 unfolding IsStrictlySortedBy
-no_key = record { few = omega arith; ascending = tt; identifiers = All-nil _ }
+no_key = record { few = omega arith; ascending = tt }
+
+-- none of its names is wide, and its names and keys are identifiers
+rover_in_order : AllPairs IsWideBehind rover_plan.names
+unfolding is_wide_name
+rover_in_order = wide_behind rover_plan.names [] (All-from_recursion IsNarrow rover_plan.names (refl, (refl, (refl, (refl, (refl, (refl, tt))))))) (All-nil IsWide)
+
+rover_writable : (n : ℕ) → n < 6 → IsWritable rover_plan n
+unfolding is_identifier has_name_form keywords
+rover_writable = λ n. writable n
+  where
+    keyed : All (λ key. IsTrue (is_identifier key)) (count ∷ [])
+    keyed = All-from_recursion (λ key. IsTrue (is_identifier key)) (count ∷ []) (refl, tt)
+
+    writable : (n : ℕ) → n < 6 → IsWritable rover_plan n
+    writable zero l narrow = record { name = refl; keys = keyed }
+    writable (suc zero) l narrow = record { name = refl; keys = keyed }
+    writable (suc (suc zero)) l narrow = record { name = refl; keys = keyed }
+    writable (suc (suc (suc zero))) l narrow = record { name = refl; keys = keyed }
+    writable (suc (suc (suc (suc zero)))) l narrow = record { name = refl; keys = keyed }
+    writable (suc (suc (suc (suc (suc zero))))) l narrow = record { name = refl; keys = All-nil _ }
+    writable (suc (suc (suc (suc (suc (suc n)))))) l narrow = absurd (omega arith)
 
 small : (a b : ℕ) → a < 6 → b < 6 → All (λ n. n < 6) (a ∷ b ∷ [])
 small a b l m = All-from_recursion (λ n. n < 6) (a ∷ b ∷ []) (l, (m, tt))
@@ -381,15 +407,45 @@ rover_rules = All-from_recursion (IsRuleOf rover_plan) rover_plan.rules (
 )
 
 rover_is_plan : IsPlan rover_plan
-unfolding is_identifier has_name_form keywords IsDistinct
+unfolding IsDistinct
 rover_is_plan = record {
   few_names = omega arith;
   few_rules = omega arith;
   distinct = search rules;
-  identifiers = All-from_recursion (λ name. IsTrue (is_identifier name)) rover_plan.names (refl, (refl, (refl, (refl, (refl, (refl, tt))))));
+  wide_last = rover_in_order;
+  identifiers = rover_writable;
   each_keys = refl;
   keys = All-from_recursion AreKeys rover_plan.keys (one_key, (one_key, (one_key, (one_key, (one_key, (no_key, tt))))));
   each_level = refl;
   levels = rover_levelled;
   rules = rover_rules;
 }
+
+-- ---- `|1 :- a before b` and `w :- |1`: the wide name has the last number, and is no head
+abbrev bare : List ℕ → Body → Rule
+bare head b = record { head = head; body = b; filter = None; entries = []; start = None; stop = None }
+
+abbrev wide_rules : List Rule
+wide_rules = bare (codes "|1") (body.Pair (atom (codes "a") (codes "a")) Before (atom (codes "b") (codes "b"))) ∷ bare (codes "w") (body.One (atom (codes "x") (codes "|1"))) ∷ []
+
+abbrev unclaused : ℕ → ℕ → Link → PlanRule
+unclaused head first linked = record { head = head; keys = 0; first = first; link = linked; filter = None; entries = []; start = None; stop = None }
+
+abbrev pub wide_plan : Plan
+wide_plan = plan_from (codes "a" ∷ codes "b" ∷ codes "w" ∷ codes "|1" ∷ []) ([] ∷ [] ∷ [] ∷ [] ∷ [])
+    (unclaused 3 0 (link.Pair Before 1) ∷ unclaused 2 3 link.One ∷ []) (0 ∷ 0 ∷ 2 ∷ 1 ∷ [])
+
+the_wide_plan : plan_of wide_rules ((codes "a", 0) ∷ (codes "b", 0) ∷ (codes "w", 2) ∷ (codes "|1", 1) ∷ []) ≡ wide_plan
+unfolding is_wide_name
+the_wide_plan = refl
+
+wide_names : map (is_wide wide_plan) (range_with_len 0 4) ≡ false ∷ false ∷ false ∷ true ∷ []
+unfolding is_wide_name
+wide_names = refl
+
+wide_heads : map (is_head wide_plan) (range_with_len 0 4) ≡ false ∷ false ∷ true ∷ false ∷ []
+unfolding is_wide_name
+wide_heads = refl
+
+wide_levels : map (level_by_rules wide_plan) (range_with_len 0 4) ≡ 0 ∷ 0 ∷ 2 ∷ 1 ∷ []
+wide_levels = refl

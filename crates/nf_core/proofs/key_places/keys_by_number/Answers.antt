@@ -1,11 +1,11 @@
-use Rattle.std.proofs.Common.{◌≡◌, [], ◌++◌, length, take, drop, replicate, flat_map, Contains, sym, ap, subst, ◌∙◌, arith}
+use Rattle.std.proofs.Common.{◌≡◌, [], ◌++◌, length, take, drop, replicate, Contains, sym, ap, subst, ◌∙◌, arith}
 use Rattle.std.specs.List.{IsDistinct}
 use Rattle.std.proofs.lemmas.Grind.{common_steps}
 use Rattle.std.proofs.lemmas.List.Elements.{All-from_recursion}
 use Rattle.nf_core.specs.Texts.{text_eq}
 use Rattle.nf_core.specs.Written.{names_in}
 use Rattle.nf_core.proofs.CollectedKeyLemmas.{none_collected, collected_more}
-use Rattle.nf_core.proofs.Public.EachOnceLemmas.{IsDistinct-each_once}
+use Rattle.nf_core.proofs.Public.NameLemmas.{IsDistinct-names_of}
 use Rattle.nf_core.proofs.NumberingLemmas.{known_item}
 use Rattle.nf_core.proofs.key_places.keys_by_number.Goals as goal
 
@@ -15,7 +15,7 @@ loop-rule-init c = c.in_ok-keys.ensures ∙ ap (λ n. replicate n []) c.len.ensu
 
 -- src/key_places.rt:36:9
 pub add_keys-requires-clause-distinct : goal.add_keys-requires-clause-distinct
-add_keys-requires-clause-distinct c = subst (IsDistinct text_eq) (sym c.requires.named) (IsDistinct-each_once (flat_map names_in c.args.rules.now))
+add_keys-requires-clause-distinct c = subst (IsDistinct text_eq) (sym c.requires.named) (IsDistinct-names_of c.args.rules.now)
 
 -- src/key_places.rt:36:9
 pub add_keys-requires-clause-known : goal.add_keys-requires-clause-known

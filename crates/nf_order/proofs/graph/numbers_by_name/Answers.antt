@@ -1,11 +1,12 @@
-use Rattle.std.proofs.Common.{◌≡◌, ◌<◌, length, flat_map, take, Contains, ◌∙◌, ap, sym, subst, arith}
+use Rattle.std.proofs.Common.{◌≡◌, ◌<◌, length, take, Contains, ◌∙◌, ap, sym, subst, arith}
 use Rattle.std.specs.List.{IsDistinct}
 use Rattle.nf_core.specs.Texts.{text_eq}
 use Rattle.std.proofs.lemmas.List.{length-map}
 use Rattle.std.proofs.lemmas.List.Elements.{All-from_recursion}
-use Rattle.nf_core.proofs.Public.EachOnceLemmas.{place_of-lt, IsDistinct-each_once}
+use Rattle.nf_core.proofs.Public.EachOnceLemmas.{place_of-lt}
+use Rattle.nf_core.proofs.Public.NameLemmas.{IsDistinct-names_of}
 use Rattle.nf_core.specs.Trees.{Rule}
-use Rattle.nf_core.specs.Written.{names_in, place_of}
+use Rattle.nf_core.specs.Written.{place_of}
 use Rattle.nf_order.specs.inner.Graph.{numbers_below}
 use Rattle.nf_order.proofs.GraphLemmas.{below_none, below_more, rule_known}
 use Rattle.nf_order.proofs.graph.numbers_by_name.Goals as goal
@@ -36,5 +37,5 @@ loop-rule-preserved c =
     let known = rule_known c.args.names.now c.args.rules.now c.as_slice-rule-items.result.now c.loop-rule.rule-index c.rule-item.result c.requires c.as_slice-rule-items.ensures (omega arith) c.rule-item.is in
     let at : c.number-head.result ≡ place_of c.args.names.now c.rule-item.result.head = c.number-head.ensures.number ∙ ap (place_of c.args.names.now) (c.as_str.ensures ∙ ap (λ (r : Rule). r.head) c.rule.view_is) in
     rw at (below_more c.args.names.now c.as_slice-rule-items.result.now c.loop-rule.rule-index c.rule-item.result c.loop-rule.below.items c.index_mut.result.now c.add_numbers.new.numbers
-    (subst (IsDistinct text_eq) (sym c.requires) (IsDistinct-each_once (flat_map names_in c.args.rules.now))) known.0 (omega arith) c.rule-item.is c.loop-rule.invariant
+    (subst (IsDistinct text_eq) (sym c.requires) (IsDistinct-names_of c.args.rules.now)) known.0 (omega arith) c.rule-item.is c.loop-rule.invariant
     (rw at at c.index_mut.ensures.value) c.in_ok-add_numbers.ensures)

@@ -5,6 +5,7 @@ use Rattle.nf_order.specs.Dependence.{IsFirstCycle}
 use Rattle.nf_order.specs.declared.fault.OrderFault.TheVariants as order
 use Rattle.nf_spec.specs.Specification.{SpecifiesFrom, OrNoMemory}
 use Rattle.nf_spec.proofs.SpecifiedLemmas.{wrong_kinds, no_levels}
+use Rattle.nf_spec.proofs.PlannedRuleLemmas.{has_identifiers}
 use Rattle.nf_spec.proofs.compiling.compile_modules.Goals as goal
 
 pub returns-in_err-check_kinds-clause-specifies : goal.returns-in_err-check_kinds-clause-specifies
@@ -22,3 +23,6 @@ returns-in_err-levels-clause-specifies c =
     let first : (name : List ℕ) → why ≡ order.Cycle name → IsFirstCycle c.in_ok-rules.rules name = λ name is. c.in_err-levels.ensures.cycle name (ap Err is) in
     subst (OrNoMemory (SpecifiesFrom c.args.modules.now root)) (sym handed.1)
     (no_levels c.args.modules.now root c.in_ok-rules.rules why handed.0 c.in_ok-rules.ensures.selects c.in_ok-check_kinds.ensures.ok handed.2 first)
+
+pub returns-clause-identifiers : goal.returns-clause-identifiers
+returns-clause-identifiers c = has_identifiers c.in_ok-rules.rules c.in_ok-levels.levels c.in_ok-plan.plan c.in_ok-rules.ensures.written c.in_ok-plan.ensures
