@@ -8,7 +8,8 @@ pub record Part (W A : Type 0) : Type 1 where
   pub front : State W → State W → Type 0
 
 -- one token, of which a table says what it gives
-pub record IsToken {W A : Type 0} (table : W → Option A) (s : State W) (x : A) (t : State W) : Type 0 where
+pub record IsToken {W A : Type 0} (table : W → Option A)
+    (s : State W) (x : A) (t : State W) : Type 0 where
   pub token : W
   pub first : s.words ≡ token ∷ t.words
   pub gives : table token ≡ Some x
@@ -23,7 +24,8 @@ abbrev pub token : {W A : Type 0} → (W → Option A) → Part W A
 token table = record { word = IsToken table; front = IsTokenFront table }
 
 -- one token that is counted: one fewer may follow
-pub record IsCounted {W A : Type 0} (table : W → Option A) (s : State W) (x : A) (t : State W) : Type 0 where
+pub record IsCounted {W A : Type 0} (table : W → Option A)
+    (s : State W) (x : A) (t : State W) : Type 0 where
   pub token : W
   pub first : s.words ≡ token ∷ t.words
   pub gives : table token ≡ Some x
@@ -49,14 +51,16 @@ abbrev pub nowhere : {W A : Type 0} → Part W A
 nowhere = record { word = λ s x t. ⊥; front = λ s t. t ≡ s }
 
 -- a part, and then another one, which may look at what the first part gave
-pub record IsThen {W A B : Type 0} (p : Part W A) (k : A → Part W B) (s : State W) (y : B) (t : State W) : Type 0 where
+pub record IsThen {W A B : Type 0} (p : Part W A) (k : A → Part W B)
+    (s : State W) (y : B) (t : State W) : Type 0 where
   pub given : A
   pub middle : State W
   pub first : p.word s given middle
   pub rest : (k given).word middle y t
 
 -- a front of a sequence is a front of its first part, or a word of its first part followed by a front of the rest
-pub data IsThenFront {W A B : Type 0} (p : Part W A) (k : A → Part W B) (s t : State W) : Type 0 where
+pub data IsThenFront {W A B : Type 0} (p : Part W A) (k : A → Part W B)
+    (s t : State W) : Type 0 where
   first : p.front s t → IsThenFront p k s t
   rest : {x : A} {middle : State W} → p.word s x middle → (k x).front middle t → IsThenFront p k s t
 
@@ -65,12 +69,16 @@ and_then p k = record { word = IsThen p k; front = IsThenFront p k }
 
 -- one part or another; a front of a choice is a front of one of its alternatives
 abbrev pub either : {W A : Type 0} → Part W A → Part W A → Part W A
-either p q = record { word = λ s x t. p.word s x t ⊎ q.word s x t; front = λ s t. p.front s t ⊎ q.front s t }
+either p q = record {
+  word = λ s x t. p.word s x t ⊎ q.word s x t;
+  front = λ s t. p.front s t ⊎ q.front s t;
+}
 
 -- a number of words of a part, one after the other
 pub data IsRepeated {W A : Type 0} (p : Part W A) : State W → List A → State W → Type 0 where
   none : {s : State W} → IsRepeated p s [] s
-  more : {s t u : State W} {x : A} {xs : List A} → p.word s x t → IsRepeated p t xs u → IsRepeated p s (x ∷ xs) u
+  more : {s t u : State W} {x : A} {xs : List A} → p.word s x t → IsRepeated p t xs u
+      → IsRepeated p s (x ∷ xs) u
 
 -- a front of a repetition is a number of words of its part, one after the other, followed by a front of the part
 pub data IsRepeatedFront {W A : Type 0} (p : Part W A) : State W → State W → Type 0 where
@@ -108,4 +116,5 @@ optional p = either (and_then p (λ x. done (Some x))) (done None)
 
 -- part { separator part }
 abbrev pub separated : {W A B : Type 0} → (W → Option B) → Part W A → Part W (List A)
-separated separator p = and_then p (λ x. and_then (repeated (after separator p)) (λ xs. done (x ∷ xs)))
+separated separator p = and_then p (λ x.
+    and_then (repeated (after separator p)) (λ xs. done (x ∷ xs)))

@@ -38,6 +38,11 @@ module _ {W A : Type 0} (texts : ℕ → Part W A) where
   -- the answer to some words within limits. They are a text, or they go so far. Where they go further under other limits, the next word is TooDeep; else it is Grammar. Where all of them are a front, and under no limits a text, the end is Grammar. A place is told by how many words are left
   pub data Answers (limits : Limits) (words : List W) : Result A Fault → Type 0 where
     text : {x : A} → IsText limits words x → Answers limits words (Ok x)
-    too_deep : {count : ℕ} → GoesTo limits words count → GoesFurther words count → Answers limits words (Err (fault.TooDeep (length words - count)))
-    grammar : {count : ℕ} → GoesTo limits words count → count < length words → (GoesFurther words count → ⊥) → Answers limits words (Err (fault.Grammar (length words - count)))
-    ends : GoesTo limits words (length words) → ((other : Limits) (x : A) → IsText other words x → ⊥) → Answers limits words (Err (fault.Grammar 0))
+    too_deep : {count : ℕ} → GoesTo limits words count → GoesFurther words count
+        → Answers limits words (Err (fault.TooDeep (length words - count)))
+    grammar : {count : ℕ} → GoesTo limits words count → count < length words
+        → (GoesFurther words count → ⊥)
+        → Answers limits words (Err (fault.Grammar (length words - count)))
+    ends : GoesTo limits words (length words)
+        → ((other : Limits) (x : A) → IsText other words x → ⊥)
+        → Answers limits words (Err (fault.Grammar 0))

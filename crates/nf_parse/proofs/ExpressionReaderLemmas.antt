@@ -6,8 +6,12 @@ use Rattle.nf_core.specs.declared.trees.Expr.TheVariants as node
 use Rattle.nf_grammar.specs.Parts as part
 use Rattle.nf_grammar.specs.inner.Parsers as parser
 use Rattle.nf_grammar.specs.inner.Parsers.{place, in_table}
-use Rattle.nf_grammar.proofs.Public.ReaderLemmas.{Next, always, Has, IsReader, IsShorter, done_reader, nowhere_reader, token_reader, counted_reader, then_reader, choose_reader, repeated_reader, weaken, forward, token_shorter, counted_shorter, then_shorter, IsTaking, then_taking}
+use Rattle.nf_grammar.proofs.Public.ReaderLemmas.{Next, always, IsReader, IsShorter, done_reader, nowhere_reader, then_reader, choose_reader, weaken, forward}
+use Rattle.nf_grammar.proofs.Public.TokenReaderLemmas.{Has, token_reader, counted_reader, token_shorter, counted_shorter}
+use Rattle.nf_grammar.proofs.Public.RepeatedReaderLemmas.{repeated_reader}
+use Rattle.nf_grammar.proofs.Public.TakingReaderLemmas.{then_shorter, IsTaking, then_taking}
 use Rattle.nf_parse.specs.contracts.symbol.Sym.{the_type}
+use Rattle.nf_parse.specs.contracts.level.Level.{the_type as level_type}
 use Rattle.nf_parse.specs.declared.symbol.Sym.{Sym}
 use Rattle.nf_parse.specs.declared.symbol.Sym.TheVariants as sym
 use Rattle.nf_parse.specs.declared.level.Level.{Level}
@@ -28,7 +32,8 @@ pub same_is : (a b : Sym) → sameb the_type a b ≡ true → a ≡ b
 same_is a b e = same_true the_type (search rules) a b e
 
 -- a word of one kind is of no other
-pub apart : (k j : Sym) → sameb the_type k j ≡ false → (n : Option Word) → IsKind k n → is_kind j n ≡ false
+pub apart : (k j : Sym) → sameb the_type k j ≡ false → (n : Option Word) → IsKind k n
+    → is_kind j n ≡ false
 apart k j d None h = absurd (cc)
 apart k j d (Some w) h = subst (λ z. sameb the_type z j ≡ false) (sym (same_is w.0 k h)) d
 
@@ -88,19 +93,23 @@ module _ (l : Level) {p : Parser Expr} {P : Production Expr} {begin stop : Next 
         (λ n h. elim h [ inl b ↦ again n b | inr e ↦ e.0 ])
 
 -- a word and then a part
-pub after_reader : {A : Type 0} (k : Sym) {p : Parser A} {P : Production A} {begin stop : Next Word} → IsReader p P begin stop → IsReader (named.after k p) (grammar.behind k P) (IsKind k) stop
+pub after_reader : {A : Type 0} (k : Sym) {p : Parser A} {P : Production A} {begin stop : Next Word}
+    → IsReader p P begin stop → IsReader (named.after k p) (grammar.behind k P) (IsKind k) stop
 after_reader k r = then_reader (word_reader k) (λ bytes. r) (λ n h. tt)
 
-pub after_taking : {A : Type 0} (k : Sym) {p : Parser A} {P : Production A} {begin stop : Next Word} → IsReader p P begin stop → IsTaking (named.after k p) (grammar.behind k P) (IsKind k) stop
+pub after_taking : {A : Type 0} (k : Sym) {p : Parser A} {P : Production A} {begin stop : Next Word}
+    → IsReader p P begin stop → IsTaking (named.after k p) (grammar.behind k P) (IsKind k) stop
 after_taking k r = then_taking (word_taking k) (λ bytes. r) (λ n h. tt)
 
 -- a part between two words, with the second of which it may end
-pub enclosed_reader : {A : Type 0} (opening closing : Sym) {p : Parser A} {P : Production A} {begin stop : Next Word} → IsReader p P begin stop → ((n : Option Word) → IsKind closing n → stop n)
+pub enclosed_reader : {A : Type 0} (opening closing : Sym) {p : Parser A} {P : Production A} {begin stop : Next Word}
+    → IsReader p P begin stop → ((n : Option Word) → IsKind closing n → stop n)
     → IsReader (named.enclosed opening p closing) (grammar.enclosed opening P closing) (IsKind opening) always
 enclosed_reader opening closing r ends = after_reader opening (then_reader r (λ x. after_reader closing (done_reader x always)) ends)
 
 -- what is read under a label
-pub member_reader : (label : List ℕ) → IsReader (reading.member label) (grammar.member label) always always
+pub member_reader : (label : List ℕ)
+    → IsReader (reading.member label) (grammar.member label) always always
 unfolding reading.member
 member_reader label = weaken (λ n h. tt) (λ n h. h)
     (choose_reader (then_reader (word_reader sym.Ident) (λ key. done_reader (node.Key label key) always) (λ n h. tt))
@@ -116,7 +125,8 @@ read_reader = then_reader (word_reader sym.Ident) (λ label. after_reader sym.Do
 abbrev pub BeginsOperand : Next Word
 BeginsOperand n = IsKind sym.Number n ⊎ (IsKind sym.Text n ⊎ (IsKind sym.True n ⊎ (IsKind sym.False n ⊎ (IsKind sym.Ident n ⊎ IsKind sym.Open n))))
 
-pub primary_reader : {p : Parser Expr} {P : Production Expr} → IsReader p P (IsKind sym.Open) always → IsReader (reading.primary p) (grammar.primary P) BeginsOperand always
+pub primary_reader : {p : Parser Expr} {P : Production Expr} → IsReader p P (IsKind sym.Open) always
+    → IsReader (reading.primary p) (grammar.primary P) BeginsOperand always
 unfolding reading.primary
 primary_reader r =
     choose_reader (then_reader (word_reader sym.Number) (λ bytes. done_reader _ always) (λ n h. tt))
@@ -162,79 +172,41 @@ operand_no_sign n (inr (inr (inr (inr (inr b))))) = no_sign sym.Open refl n b
 sign_reader : IsReader (parser.counted sign_of_word) (part.counted sign_of_word) IsSign always
 sign_reader = weaken (λ n h. has_some (in_table sign_of_word n) h.0 h.1) (λ n h. h) (counted_reader sign_of_word)
 
-pub unary_reader : {p : Parser Expr} {P : Production Expr} → IsReader p P BeginsOperand always → IsReader (reading.unary p) (grammar.unary P) always always
+pub unary_reader : {p : Parser Expr} {P : Production Expr} → IsReader p P BeginsOperand always
+    → IsReader (reading.unary p) (grammar.unary P) always always
 unfolding reading.unary
 unary_reader r = weaken (λ n h. tt) (λ n h. h) (then_reader
     (repeated_reader {stop = NoSign} sign_reader (counted_shorter sign_of_word) (λ n h. tt) (λ n h. tt) (λ n h. h) (λ n h. h))
     (λ signs. then_reader r (λ x. done_reader (grammar.signed signs x) always) (λ n h. tt)) operand_no_sign)
 
 -- an operator of one level is none of another
-sum_product : (k : Sym) → is_some (op_at level.Sum k) ≡ true → is_some (op_at level.Product k) ≡ false
+level_apart : (l m : Level) (k : Sym) → sameb level_type l m ≡ false → is_some (op_at l k) ≡ true
+    → is_some (op_at m k) ≡ false
 unfolding op_at
-sum_product sym.Plus h = refl
-sum_product sym.Minus h = refl
-sum_product k h = absurd (true≢false (sym h))
+level_apart level.Or level.Or k d h = absurd (true≢false d)
+level_apart level.And level.And k d h = absurd (true≢false d)
+level_apart level.Compare level.Compare k d h = absurd (true≢false d)
+level_apart level.Sum level.Sum k d h = absurd (true≢false d)
+level_apart level.Product level.Product k d h = absurd (true≢false d)
+level_apart level.Or m sym.Or d h = refl
+level_apart level.And m sym.And d h = refl
+level_apart level.Compare m sym.Equal d h = refl
+level_apart level.Compare m sym.NotEqual d h = refl
+level_apart level.Compare m sym.Less d h = refl
+level_apart level.Compare m sym.LessEqual d h = refl
+level_apart level.Compare m sym.Greater d h = refl
+level_apart level.Compare m sym.GreaterEqual d h = refl
+level_apart level.Sum m sym.Plus d h = refl
+level_apart level.Sum m sym.Minus d h = refl
+level_apart level.Product m sym.Star d h = refl
+level_apart level.Product m sym.Slash d h = refl
+level_apart level.Product m sym.Percent d h = refl
+level_apart l m k d h = absurd (true≢false (sym h))
 
-compare_product : (k : Sym) → is_some (op_at level.Compare k) ≡ true → is_some (op_at level.Product k) ≡ false
-unfolding op_at
-compare_product sym.Equal h = refl
-compare_product sym.NotEqual h = refl
-compare_product sym.Less h = refl
-compare_product sym.LessEqual h = refl
-compare_product sym.Greater h = refl
-compare_product sym.GreaterEqual h = refl
-compare_product k h = absurd (true≢false (sym h))
-
-compare_sum : (k : Sym) → is_some (op_at level.Compare k) ≡ true → is_some (op_at level.Sum k) ≡ false
-unfolding op_at
-compare_sum sym.Equal h = refl
-compare_sum sym.NotEqual h = refl
-compare_sum sym.Less h = refl
-compare_sum sym.LessEqual h = refl
-compare_sum sym.Greater h = refl
-compare_sum sym.GreaterEqual h = refl
-compare_sum k h = absurd (true≢false (sym h))
-
-and_product : (k : Sym) → is_some (op_at level.And k) ≡ true → is_some (op_at level.Product k) ≡ false
-unfolding op_at
-and_product sym.And h = refl
-and_product k h = absurd (true≢false (sym h))
-
-and_sum : (k : Sym) → is_some (op_at level.And k) ≡ true → is_some (op_at level.Sum k) ≡ false
-unfolding op_at
-and_sum sym.And h = refl
-and_sum k h = absurd (true≢false (sym h))
-
-and_compare : (k : Sym) → is_some (op_at level.And k) ≡ true → is_some (op_at level.Compare k) ≡ false
-unfolding op_at
-and_compare sym.And h = refl
-and_compare k h = absurd (true≢false (sym h))
-
-or_product : (k : Sym) → is_some (op_at level.Or k) ≡ true → is_some (op_at level.Product k) ≡ false
-unfolding op_at
-or_product sym.Or h = refl
-or_product k h = absurd (true≢false (sym h))
-
-or_sum : (k : Sym) → is_some (op_at level.Or k) ≡ true → is_some (op_at level.Sum k) ≡ false
-unfolding op_at
-or_sum sym.Or h = refl
-or_sum k h = absurd (true≢false (sym h))
-
-or_compare : (k : Sym) → is_some (op_at level.Or k) ≡ true → is_some (op_at level.Compare k) ≡ false
-unfolding op_at
-or_compare sym.Or h = refl
-or_compare k h = absurd (true≢false (sym h))
-
-or_and : (k : Sym) → is_some (op_at level.Or k) ≡ true → is_some (op_at level.And k) ≡ false
-unfolding op_at
-or_and sym.Or h = refl
-or_and k h = absurd (true≢false (sym h))
-
--- so it is of the next word
-module _ (l m : Level) (apart_at : (k : Sym) → is_some (op_at l k) ≡ true → is_some (op_at m k) ≡ false) where
-  pub no_operator : (n : Option Word) → IsOperator l n → NoOperator m n
-  no_operator None h = refl
-  no_operator (Some w) h = apart_at w.0 h
+no_operator : (l m : Level) → sameb level_type l m ≡ false → (n : Option Word) → IsOperator l n
+    → NoOperator m n
+no_operator l m d None h = refl
+no_operator l m d (Some w) h = level_apart l m w.0 d h
 
 -- where a product, a sum, a comparison, a conjunction and an expression may end
 abbrev pub EndsProduct : Next Word
@@ -260,18 +232,18 @@ module _ {p : Parser Expr} {P : Production Expr} (paren : IsReader p P (IsKind s
   product_reader = chain_reader level.Product unary_operand_reader (λ n h. tt)
 
   pub sum_reader : IsReader (reading.sum p) (grammar.sum P) always EndsSum
-  sum_reader = chain_reader level.Sum product_reader (λ n h. (tt, no_operator level.Sum level.Product sum_product n h))
+  sum_reader = chain_reader level.Sum product_reader (λ n h. (tt, no_operator level.Sum level.Product refl n h))
 
   pub comparison_reader : IsReader (reading.comparison p) (grammar.comparison P) always EndsComparison
-  comparison_reader = single_reader level.Compare sum_reader (λ n h. ((tt, no_operator level.Compare level.Product compare_product n h), no_operator level.Compare level.Sum compare_sum n h))
+  comparison_reader = single_reader level.Compare sum_reader (λ n h. ((tt, no_operator level.Compare level.Product refl n h), no_operator level.Compare level.Sum refl n h))
 
   pub conjunction_reader : IsReader (reading.conjunction p) (grammar.conjunction P) always EndsConjunction
   conjunction_reader = chain_reader level.And comparison_reader
-      (λ n h. (((tt, no_operator level.And level.Product and_product n h), no_operator level.And level.Sum and_sum n h), no_operator level.And level.Compare and_compare n h))
+      (λ n h. (((tt, no_operator level.And level.Product refl n h), no_operator level.And level.Sum refl n h), no_operator level.And level.Compare refl n h))
 
   pub expression_reader : IsReader (reading.expression p) (grammar.expression P) always EndsExpression
   expression_reader = chain_reader level.Or conjunction_reader
-      (λ n h. ((((tt, no_operator level.Or level.Product or_product n h), no_operator level.Or level.Sum or_sum n h), no_operator level.Or level.Compare or_compare n h), no_operator level.Or level.And or_and n h))
+      (λ n h. ((((tt, no_operator level.Or level.Product refl n h), no_operator level.Or level.Sum refl n h), no_operator level.Or level.Compare refl n h), no_operator level.Or level.And refl n h))
 
 -- a kind of words that are no operators
 pub record IsNoOperator (k : Sym) : Type 0 where
@@ -288,7 +260,9 @@ ends_at k d n h = (((((tt, go level.Product n h), go level.Sum n h), go level.Co
 pub ends_at_end : EndsExpression None
 ends_at_end = (((((tt, refl), refl), refl), refl), refl)
 
-pub none_at : (k : Sym) → is_some (op_at level.Or k) ≡ false → is_some (op_at level.And k) ≡ false → is_some (op_at level.Compare k) ≡ false → is_some (op_at level.Sum k) ≡ false → is_some (op_at level.Product k) ≡ false → IsNoOperator k
+pub none_at : (k : Sym) → is_some (op_at level.Or k) ≡ false → is_some (op_at level.And k) ≡ false
+    → is_some (op_at level.Compare k) ≡ false → is_some (op_at level.Sum k) ≡ false
+    → is_some (op_at level.Product k) ≡ false → IsNoOperator k
 none_at k a b c d f = record { none = go }
   where
     go : (l : Level) → is_some (op_at l k) ≡ false
@@ -309,30 +283,6 @@ comma_is_none = none_at sym.Comma refl refl refl refl refl
 pub close_brace_is_none : IsNoOperator sym.CloseBrace
 unfolding op_at
 close_brace_is_none = none_at sym.CloseBrace refl refl refl refl refl
-
-pub ident_is_none : IsNoOperator sym.Ident
-unfolding op_at
-ident_is_none = none_at sym.Ident refl refl refl refl refl
-
-pub module_is_none : IsNoOperator sym.Module
-unfolding op_at
-module_is_none = none_at sym.Module refl refl refl refl refl
-
-pub where_is_none : IsNoOperator sym.Where
-unfolding op_at
-where_is_none = none_at sym.Where refl refl refl refl refl
-
-pub map_is_none : IsNoOperator sym.Map
-unfolding op_at
-map_is_none = none_at sym.Map refl refl refl refl refl
-
-pub begin_is_none : IsNoOperator sym.Begin
-unfolding op_at
-begin_is_none = none_at sym.Begin refl refl refl refl refl
-
-pub end_is_none : IsNoOperator sym.End
-unfolding op_at
-end_is_none = none_at sym.End refl refl refl refl refl
 
 -- parentheses, of which at most so many are open at once
 pub paren_reader : (d : ℕ) → IsReader (reading.paren d) (grammar.paren d) (IsKind sym.Open) always

@@ -19,7 +19,8 @@ use Rattle.nf_parse.proofs.ReadExpressionLemmas.{IsWord, expression_written}
 use Rattle.nf_parse.proofs.ReadRuleLemmas.{IsGoodRule, IsWrittenModule, file_reading}
 
 -- the words that an expression takes stand in front of those that are left
-expression_before : (depth : ℕ) (s t : State) (x : Expr) → expression (paren depth) s ≡ Ok (x, t) → (taken : List Word) × (s.words ≡ taken ++ t.words)
+expression_before : (depth : ℕ) (s t : State) (x : Expr) → expression (paren depth) s ≡ Ok (x, t)
+    → (taken : List Word) × (s.words ≡ taken ++ t.words)
 expression_before depth s t x e =
     let r = expression_reader (paren_reader depth) in
     let b = r.behind s t (r.whole s t x (r.sound s t x e)) in
@@ -39,12 +40,15 @@ module _ (parts : IsByParts) (fits : Word → Type 0) (w : IsWord fits) where
   written_rule : (rule : Rule) → IsGoodRule IsName IsWrittenExpr rule → IsWritten rule
   written_rule rule g = record { head = g.head; labels = g.labels; names = g.names; keys = g.keys; expressions = g.expressions }
 
-  written_rules : (modules : List Module) → All (IsWrittenModule IsName IsWrittenExpr) modules → All IsWritten (rules_in modules)
+  written_rules : (modules : List Module) → All (IsWrittenModule IsName IsWrittenExpr) modules
+      → All IsWritten (rules_in modules)
   written_rules [] h = All-nil IsWritten
   written_rules (m ∷ modules) h = All-append IsWritten m.rules (rules_in modules)
       (All-weaker (IsGoodRule IsName IsWrittenExpr) IsWritten written_rule m.rules (All-head (IsWrittenModule IsName IsWrittenExpr) m modules h))
       (written_rules modules (All-tail (IsWrittenModule IsName IsWrittenExpr) m modules h))
 
-  pub file_written : (depth : ℕ) (s t : State) (modules : List Module) → file (expression (paren depth)) s ≡ Ok (modules, t) → All fits s.words → All IsWritten (rules_in modules)
+  pub file_written : (depth : ℕ) (s t : State) (modules : List Module)
+      → file (expression (paren depth)) s ≡ Ok (modules, t) → All fits s.words
+      → All IsWritten (rules_in modules)
   file_written depth s t modules e h = written_rules modules ((file_reading IsName IsWrittenExpr fits w.name (expression (paren depth))
       (record { before = expression_before depth; given = λ s t x e h. expression_written parts fits w depth s t x e h })).given s t modules e h)

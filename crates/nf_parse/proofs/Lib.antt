@@ -4,7 +4,6 @@ pub mod LimitReaderLemmas
 pub mod WordByteLemmas
 pub mod StepLemmas
 pub mod OperandLoopLemmas
-pub mod OutcomeLemmas
 pub mod PartListLemmas
 pub mod FileLoopLemmas
 pub mod PartStepLemmas

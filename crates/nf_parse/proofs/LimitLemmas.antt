@@ -46,7 +46,9 @@ opened_within false n depth l h = l
 
 -- binary operators
 module _ (depth : ℕ) (o : BinOp) (l r : Tree) where
-  bin_fits : (m n : ℕ) → IsFitting depth (op_level o) m l → IsFitting depth (suc (op_level o)) n r → (left_in_parens o l ≡ true → open_parens l < depth) → IsFitting depth (op_level o) (suc (m + n)) (trees.Bin o l r)
+  bin_fits : (m n : ℕ) → IsFitting depth (op_level o) m l → IsFitting depth (suc (op_level o)) n r
+      → (left_in_parens o l ≡ true → open_parens l < depth)
+      → IsFitting depth (op_level o) (suc (m + n)) (trees.Bin o l r)
   unfolding operators open_parens level
   bin_fits m n a b h = record {
     used = omega (arith, a.used, b.used);
@@ -88,7 +90,8 @@ level_number l k o h = absurd (cc)
 module _ (parts : IsByParts) (depth : ℕ) where
   -- what a production gives fits
   pub record Gives (wanted : ℕ) (R : Production Expr) : Type 0 where
-    pub fits : (s t : State) (x : Expr) → R.word s x t → (used : ℕ) × (s.room ≡ used + t.room) × IsFitting depth wanted used (tree x)
+    pub fits : (s t : State) (x : Expr) → R.word s x t
+        → (used : ℕ) × (s.room ≡ used + t.room) × IsFitting depth wanted used (tree x)
 
   looser : (m n : ℕ) (R : Production Expr) → m ≤ n → Gives n R → Gives m R
   looser m n R l g = record { fits = λ s t x r. let f = g.fits s t x r in (f.0, f.1, record { used = f.2.used; low = f.2.low; strict = λ e. f.2.strict (omega (arith, e, l)) }) }
@@ -105,20 +108,25 @@ module _ (parts : IsByParts) (depth : ℕ) where
         let c = bin_fits depth o (tree x) (tree y) m b.0 (subst (λ i. IsFitting depth i m (tree x)) (sym n) a) (subst (λ i. IsFitting depth (suc i) b.0 (tree y)) (sym n) b.2) p in
         (suc (m + b.0), omega (arith, e, q.room, b.1), subst (λ i. IsFitting depth i (suc (m + b.0)) (tree (node.Bin o x y))) n (subst (λ z. IsFitting depth (op_level o) (suc (m + b.0)) z) (sym (parts.binary o x y)) c))
 
-    chain_left : (o : BinOp) (x : Expr) (m : ℕ) → op_level o ≡ number_of l → (number_of l ≡ 3 → ⊥) → IsFitting depth (number_of l) m (tree x) → left_in_parens o (tree x) ≡ true → open_parens (tree x) < depth
+    chain_left : (o : BinOp) (x : Expr) (m : ℕ) → op_level o ≡ number_of l → (number_of l ≡ 3 → ⊥)
+        → IsFitting depth (number_of l) m (tree x) → left_in_parens o (tree x) ≡ true
+        → open_parens (tree x) < depth
     chain_left o x m n z a h = ⊎_elim
         (λ e. a.strict (omega (arith, ltb-true (level (tree x)) (op_level o) e, n)))
         (λ e. absurd (z (omega (arith, eqb-true (op_level o) 3 (and_parts _ (prelude.nat_eq (op_level o) 3) e).1, n))))
         (or_cases (prelude.nat_lt (level (tree x)) (op_level o)) _ h)
 
-    single_left : (o : BinOp) (x : Expr) (m : ℕ) → op_level o ≡ number_of l → IsFitting depth (suc (number_of l)) m (tree x) → left_in_parens o (tree x) ≡ true → open_parens (tree x) < depth
+    single_left : (o : BinOp) (x : Expr) (m : ℕ) → op_level o ≡ number_of l
+        → IsFitting depth (suc (number_of l)) m (tree x) → left_in_parens o (tree x) ≡ true
+        → open_parens (tree x) < depth
     single_left o x m n a h = ⊎_elim
         (λ e. a.strict (omega (arith, ltb-true (level (tree x)) (op_level o) e, n)))
         (λ e. let p = and_parts (prelude.nat_eq (level (tree x)) 3) (prelude.nat_eq (op_level o) 3) e in
         a.strict (omega (arith, eqb-true (level (tree x)) 3 p.0, eqb-true (op_level o) 3 p.1, n)))
         (or_cases (prelude.nat_lt (level (tree x)) (op_level o)) _ h)
 
-    chain_fits : (number_of l ≡ 3 → ⊥) → (s t : State) (x : Expr) → IsChain l R s x t → (used : ℕ) × (s.room ≡ used + t.room) × IsFitting depth (number_of l) used (tree x)
+    chain_fits : (number_of l ≡ 3 → ⊥) → (s t : State) (x : Expr) → IsChain l R s x t
+        → (used : ℕ) × (s.room ≡ used + t.room) × IsFitting depth (number_of l) used (tree x)
     chain_fits z s t x (one r) = (looser (number_of l) (suc (number_of l)) R (omega arith) g).fits s t x r
     chain_fits z s t x (more {left = a} {right = b} {o} {t = w} {u = v} c q r) =
         let f = chain_fits z s w a c in
@@ -127,7 +135,8 @@ module _ (parts : IsByParts) (depth : ℕ) where
     chain_gives : (number_of l ≡ 3 → ⊥) → Gives (number_of l) (grammar.chain l R)
     chain_gives z = record { fits = λ s t x w. chain_fits z s t x (chain_cases l R s t x w) }
 
-    single_fits : (s t : State) (x : Expr) → IsSingle l R s x t → (used : ℕ) × (s.room ≡ used + t.room) × IsFitting depth (number_of l) used (tree x)
+    single_fits : (s t : State) (x : Expr) → IsSingle l R s x t
+        → (used : ℕ) × (s.room ≡ used + t.room) × IsFitting depth (number_of l) used (tree x)
     single_fits s t x (alone r) = (looser (number_of l) (suc (number_of l)) R (omega arith) g).fits s t x r
     single_fits s t x (pair {left = a} {right = b} {o} {t = w} {u = v} c q r) =
         let f = g.fits s w a c in
@@ -137,7 +146,8 @@ module _ (parts : IsByParts) (depth : ℕ) where
     single_gives = record { fits = λ s t x w. single_fits s t x (single_cases l R s t x w) }
 
   -- signs
-  sign_open : (a : Tree) (n : ℕ) → IsFitting depth 6 n a → opened (operand_in_parens a) (open_parens a) ≤ depth
+  sign_open : (a : Tree) (n : ℕ) → IsFitting depth 6 n a
+      → opened (operand_in_parens a) (open_parens a) ≤ depth
   sign_open a n f = opened_within (operand_in_parens a) (open_parens a) depth f.low (λ e. f.strict (ltb-true (level a) 6 e))
 
   minus_fits : (a : Tree) (n : ℕ) → IsFitting depth 6 n a → IsFitting depth 6 (suc n) (trees.Neg a)
@@ -148,7 +158,8 @@ module _ (parts : IsByParts) (depth : ℕ) where
   unfolding operators open_parens level
   not_fits a n f = record { used = omega (arith, f.used); low = sign_open a n f; strict = λ e. absurd (omega (arith, e)) }
 
-  unary_fits : (R : Production Expr) → Gives 7 R → (s t : State) (x : Expr) → IsUnary R s x t → (used : ℕ) × (s.room ≡ used + t.room) × IsFitting depth 6 used (tree x)
+  unary_fits : (R : Production Expr) → Gives 7 R → (s t : State) (x : Expr) → IsUnary R s x t
+      → (used : ℕ) × (s.room ≡ used + t.room) × IsFitting depth 6 used (tree x)
   unary_fits R g s t x (words.plain r) = (looser 6 7 R (omega arith) g).fits s t x r
   unary_fits R g s t x (words.minus {u} {x = y} q r) = let f = unary_fits R g u t y r in (suc f.0, omega (arith, q.room, f.1), subst (IsFitting depth 6 (suc f.0)) (sym (parts.minus y)) (minus_fits (tree y) f.0 f.2))
   unary_fits R g s t x (words.bang {u} {x = y} q r) = let f = unary_fits R g u t y r in (suc f.0, omega (arith, q.room, f.1), subst (IsFitting depth 6 (suc f.0)) (sym (parts.inverted y)) (not_fits (tree y) f.0 f.2))
@@ -178,7 +189,8 @@ module _ (parts : IsByParts) (depth : ℕ) where
   unfolding operators open_parens level
   key_fits label key = record { used = refl; low = omega arith; strict = λ e. absurd (omega (arith, e)) }
 
-  primary_fits : (P : Production Expr) → Gives 7 P → (s t : State) (x : Expr) → IsPrimary P s x t → (used : ℕ) × (s.room ≡ used + t.room) × IsFitting depth 7 used (tree x)
+  primary_fits : (P : Production Expr) → Gives 7 P → (s t : State) (x : Expr) → IsPrimary P s x t
+      → (used : ℕ) × (s.room ≡ used + t.room) × IsFitting depth 7 used (tree x)
   primary_fits P g s t x (words.number r) = (0, omega (arith, r.room), subst (IsFitting depth 7 0) (sym (parts.number _)) (number_fits _))
   primary_fits P g s t x (words.text r) = (0, omega (arith, r.room), subst (IsFitting depth 7 0) (sym (parts.text _)) (text_fits _))
   primary_fits P g s t x (words.yes r) = (0, omega (arith, r.room), subst (IsFitting depth 7 0) (sym (parts.truth _)) (truth_fits _))
@@ -199,7 +211,9 @@ module _ (parts : IsByParts) (depth : ℕ) where
       chain_gives levels.Or (grammar.conjunction P) d (λ e. omega (arith, e))
 
   -- parentheses, in which the expression is one less deep
-  inner_fits : (Gives 1 (grammar.expression (grammar.paren depth))) → (s t : State) (x : Expr) → (grammar.paren (suc depth)).word s x t → (used : ℕ) × (s.room ≡ used + t.room) × IsFitting (suc depth) 7 used (tree x)
+  inner_fits : (Gives 1 (grammar.expression (grammar.paren depth))) → (s t : State) (x : Expr)
+      → (grammar.paren (suc depth)).word s x t
+      → (used : ℕ) × (s.room ≡ used + t.room) × IsFitting (suc depth) 7 used (tree x)
   unfolding grammar.paren
   inner_fits g s t x r =
       let inside = r.rest in
@@ -219,11 +233,13 @@ module _ (parts : IsByParts) where
   paren_gives zero = record { fits = λ s t x r. absurd r }
   paren_gives (suc depth) = record { fits = inner_fits parts depth (tower_gives parts depth (grammar.paren depth) (paren_gives depth)) }
 
-  pub expression_gives : (depth : ℕ) → Gives parts depth 1 (grammar.expression (grammar.paren depth))
+  pub expression_gives : (depth : ℕ)
+      → Gives parts depth 1 (grammar.expression (grammar.paren depth))
   expression_gives depth = tower_gives parts depth (grammar.paren depth) (paren_gives depth)
 
   -- what is read within the limits is within them
-  pub expression_limits : (s t : State) (x : Expr) → s.room ≤ 256 → expression (paren 64) s ≡ Ok (x, t) → IsWithinLimits (tree x)
+  pub expression_limits : (s t : State) (x : Expr) → s.room ≤ 256
+      → expression (paren 64) s ≡ Ok (x, t) → IsWithinLimits (tree x)
   expression_limits s t x l e =
       let f = (expression_gives 64).fits s t x ((expression_reader (paren_reader 64)).sound s t x e) in
       record { few_operators = omega (arith, f.1, f.2.used); few_parens = f.2.low }

@@ -32,17 +32,20 @@ module _ {A : Type 0} {p q : Parser A} (larger : IsLarger p q) where
   after_larger : (k : Sym) → IsLarger (named.after k p) (named.after k q)
   after_larger k = then_larger (word_larger k) (λ bytes. larger)
 
-  enclosed_larger : (opening closing : Sym) → IsLarger (named.enclosed opening p closing) (named.enclosed opening q closing)
+  enclosed_larger : (opening closing : Sym)
+      → IsLarger (named.enclosed opening p closing) (named.enclosed opening q closing)
   enclosed_larger opening closing = then_larger (word_larger opening) (λ bytes. then_larger larger (λ x. then_larger (word_larger closing) (λ bytes. done_larger x)))
 
-  optional_larger : (test : Option Word → Bool) → IsLarger (named.optional test p) (named.optional test q)
+  optional_larger : (test : Option Word → Bool)
+      → IsLarger (named.optional test p) (named.optional test q)
   optional_larger test = choose_larger test (then_larger larger (λ x. done_larger (Some x))) (done_larger None)
 
   separated_larger : (k : Sym) → IsLarger (named.separated k p) (named.separated k q)
   separated_larger k = then_larger larger (λ x. then_larger (repeated_larger (is_kind k) (then_larger (word_larger k) (λ bytes. larger))) (λ xs. done_larger _))
 
 module _ {p q : Parser Expr} (larger : IsLarger p q) where
-  with_operand_larger : (l : Level) → IsLarger (expressions.with_operand l p) (expressions.with_operand l q)
+  with_operand_larger : (l : Level)
+      → IsLarger (expressions.with_operand l p) (expressions.with_operand l q)
   unfolding expressions.with_operand
   with_operand_larger l = then_larger (counted_larger (expressions.op_of_word l)) (λ o. then_larger larger (λ right. done_larger (o, right)))
 
@@ -83,7 +86,8 @@ module _ {p q : Parser Expr} (larger : IsLarger p q) where
 
 -- where no more parentheses may be open, a reader that may open more goes further
 module _ (d : ℕ) where
-  behind_open : (s : State) → place (parser.and_then (expressions.expression (expressions.paren d)) (λ x. named.after sym.Close (parser.done x)) s) ≤ length s.words
+  behind_open : (s : State)
+      → place (parser.and_then (expressions.expression (expressions.paren d)) (λ x. named.after sym.Close (parser.done x)) s) ≤ length s.words
   behind_open s = forward (then_reader (expression_reader (paren_reader d)) (λ x. after_reader sym.Close (done_reader x always)) (ends_at sym.Close close_is_none)) s
 
   zero_larger : IsLarger (expressions.paren zero) (expressions.paren (suc d))
@@ -95,7 +99,8 @@ module _ (d : ℕ) where
       opened m n w ws true e = rw e (omega (arith, behind_open (state (n + m) ws)))
       opened m n w ws false e = rw e refl
 
-      later : (m n : ℕ) (words : List Word) → IsLater m (expressions.paren zero (state n words)) (expressions.paren (suc d) (state (n + m) words))
+      later : (m n : ℕ) (words : List Word)
+          → IsLater m (expressions.paren zero (state n words)) (expressions.paren (suc d) (state (n + m) words))
       later m n [] = refl
       later m n (w ∷ ws) = opened m n w ws (sameb the_type w.0 sym.Open) refl
 
@@ -133,7 +138,8 @@ module _ {p q : Parser Expr} (larger : IsLarger p q) where
   unfolding reading.entries
   entries_larger = after_larger (then_larger (enclosed_larger (optional_larger (separated_larger entry_larger sym.Comma) is_ident) sym.OpenBrace sym.CloseBrace) (λ found. done_larger _)) sym.Map
 
-  optional_clause_larger : (k : Sym) → IsLarger (named.optional (is_kind k) (reading.clause p k)) (named.optional (is_kind k) (reading.clause q k))
+  optional_clause_larger : (k : Sym)
+      → IsLarger (named.optional (is_kind k) (reading.clause p k)) (named.optional (is_kind k) (reading.clause q k))
   optional_clause_larger k = optional_larger (clause_larger k) (is_kind k)
 
   rule_larger : IsLarger (reading.rule p) (reading.rule q)

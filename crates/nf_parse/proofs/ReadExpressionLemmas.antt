@@ -31,28 +31,34 @@ use Rattle.nf_parse.proofs.LimitLemmas.{IsByParts}
 pub record IsWord (fits : Word → Type 0) : Type 0 where
   pub name : (bytes : List ℕ) → fits (kind.Ident, bytes) → IsTrue (is_identifier bytes)
   pub text : (bytes : List ℕ) → fits (kind.Text, bytes) → IsWrittenText (body_of bytes)
-  pub number : (bytes : List ℕ) → fits (kind.Number, bytes) → pos (digits_value 10 bytes) ≤ℤ int_greatest
+  pub number : (bytes : List ℕ) → fits (kind.Number, bytes)
+      → pos (digits_value 10 bytes) ≤ℤ int_greatest
 
 module _ (parts : IsByParts) (fits : Word → Type 0) (w : IsWord fits) where
   -- a production gives what can be written
   record IsWriting (R : Production Expr) : Type 0 where
-    written : (s t : State) (x : Expr) → R.word s x t → All fits s.words → IsWrittenTree (tree x) × All fits t.words
+    written : (s t : State) (x : Expr) → R.word s x t → All fits s.words
+        → IsWrittenTree (tree x) × All fits t.words
 
-  word : (k : Sym) (s t : State) (bytes : List ℕ) → Token k s bytes t → All fits s.words → fits (k, bytes) × All fits t.words
+  word : (k : Sym) (s t : State) (bytes : List ℕ) → Token k s bytes t → All fits s.words
+      → fits (k, bytes) × All fits t.words
   word k s t bytes r h = let a = subst (All fits) r.first h in (subst fits (kind_word k r.token bytes r.gives) (All-head fits r.token t.words a), All-tail fits r.token t.words a)
 
-  operator_rest : (l : Level) (s t : State) (o : BinOp) → Operator l s o t → All fits s.words → All fits t.words
+  operator_rest : (l : Level) (s t : State) (o : BinOp) → Operator l s o t → All fits s.words
+      → All fits t.words
   operator_rest l s t o r h = All-tail fits r.token t.words (subst (All fits) r.first h)
 
   sign_rest : (s t : State) → Counted s t → All fits s.words → All fits t.words
   sign_rest s t r h = All-tail fits r.token t.words (subst (All fits) r.words h)
 
-  binary_written : (o : BinOp) (x y : Expr) → IsWrittenTree (tree x) → IsWrittenTree (tree y) → IsWrittenTree (tree (node.Bin o x y))
+  binary_written : (o : BinOp) (x y : Expr) → IsWrittenTree (tree x) → IsWrittenTree (tree y)
+      → IsWrittenTree (tree (node.Bin o x y))
   unfolding IsWrittenTree
   binary_written o x y a b = let e : trees.Bin o (tree x) (tree y) ≡ tree (node.Bin o x y) = sym (parts.binary o x y) in subst IsWrittenTree e (a, b)
 
   module _ (l : Level) (R : Production Expr) (g : IsWriting R) where
-    chain_writing : (s t : State) (x : Expr) → IsChain l R s x t → All fits s.words → IsWrittenTree (tree x) × All fits t.words
+    chain_writing : (s t : State) (x : Expr) → IsChain l R s x t → All fits s.words
+        → IsWrittenTree (tree x) × All fits t.words
     chain_writing s t x (one r) h = g.written s t x r h
     chain_writing s v x (more {left} {right} {o} {t} {u} c q d) h =
         let a = chain_writing s t left c h in
@@ -62,7 +68,8 @@ module _ (parts : IsByParts) (fits : Word → Type 0) (w : IsWord fits) where
     chain_written : IsWriting (grammar.chain l R)
     chain_written = record { written = λ s t x w. chain_writing s t x (chain_cases l R s t x w) }
 
-    single_writing : (s t : State) (x : Expr) → IsSingle l R s x t → All fits s.words → IsWrittenTree (tree x) × All fits t.words
+    single_writing : (s t : State) (x : Expr) → IsSingle l R s x t → All fits s.words
+        → IsWrittenTree (tree x) × All fits t.words
     single_writing s t x (alone r) h = g.written s t x r h
     single_writing s v x (pair {left} {right} {o} {t} {u} c q d) h =
         let a = g.written s t left c h in
@@ -80,7 +87,8 @@ module _ (parts : IsByParts) (fits : Word → Type 0) (w : IsWord fits) where
   unfolding IsWrittenTree
   not_written x a = let e : trees.Not (tree x) ≡ tree (node.Not x) = sym (parts.inverted x) in subst IsWrittenTree e a
 
-  unary_writing : (R : Production Expr) → IsWriting R → (s t : State) (x : Expr) → IsUnary R s x t → All fits s.words → IsWrittenTree (tree x) × All fits t.words
+  unary_writing : (R : Production Expr) → IsWriting R → (s t : State) (x : Expr) → IsUnary R s x t
+      → All fits s.words → IsWrittenTree (tree x) × All fits t.words
   unary_writing R g s t x (words.plain r) h = g.written s t x r h
   unary_writing R g s t x (words.minus {u} {x = y} q r) h = let a = unary_writing R g u t y r (sign_rest s u q h) in (minus_written y a.0, a.1)
   unary_writing R g s t x (words.bang {u} {x = y} q r) h = let a = unary_writing R g u t y r (sign_rest s u q h) in (not_written y a.0, a.1)
@@ -100,19 +108,23 @@ module _ (parts : IsByParts) (fits : Word → Type 0) (w : IsWord fits) where
   unfolding IsWrittenTree
   text_written text h = let e : trees.Text text ≡ tree (node.Text text) = sym (parts.text text) in subst IsWrittenTree e h
 
-  start_written : (label : List ℕ) → IsTrue (is_identifier label) → IsWrittenTree (tree (node.Start label))
+  start_written : (label : List ℕ) → IsTrue (is_identifier label)
+      → IsWrittenTree (tree (node.Start label))
   unfolding IsWrittenTree
   start_written label h = let e : trees.Start label ≡ tree (node.Start label) = sym (parts.start label) in subst IsWrittenTree e h
 
-  stop_written : (label : List ℕ) → IsTrue (is_identifier label) → IsWrittenTree (tree (node.Stop label))
+  stop_written : (label : List ℕ) → IsTrue (is_identifier label)
+      → IsWrittenTree (tree (node.Stop label))
   unfolding IsWrittenTree
   stop_written label h = let e : trees.Stop label ≡ tree (node.Stop label) = sym (parts.stop label) in subst IsWrittenTree e h
 
-  key_written : (label key : List ℕ) → IsTrue (is_identifier label) → IsTrue (is_identifier key) → IsWrittenTree (tree (node.Key label key))
+  key_written : (label key : List ℕ) → IsTrue (is_identifier label) → IsTrue (is_identifier key)
+      → IsWrittenTree (tree (node.Key label key))
   unfolding IsWrittenTree
   key_written label key h k = let e : trees.Key label key ≡ tree (node.Key label key) = sym (parts.key label key) in subst IsWrittenTree e (h, k)
 
-  primary_writing : (P : Production Expr) → IsWriting P → (s t : State) (x : Expr) → IsPrimary P s x t → All fits s.words → IsWrittenTree (tree x) × All fits t.words
+  primary_writing : (P : Production Expr) → IsWriting P → (s t : State) (x : Expr)
+      → IsPrimary P s x t → All fits s.words → IsWrittenTree (tree x) × All fits t.words
   primary_writing P g s t x (words.number {bytes} r) h = let a = word kind.Number s t bytes r h in (number_written (digits_value 10 bytes) (w.number bytes a.0), a.1)
   primary_writing P g s t x (words.text {bytes} r) h = let a = word kind.Text s t bytes r h in (text_written (body_of bytes) (w.text bytes a.0), a.1)
   primary_writing P g s t x (words.yes {bytes} r) h = (truth_written true, (word kind.True s t bytes r h).1)
@@ -137,7 +149,9 @@ module _ (parts : IsByParts) (fits : Word → Type 0) (w : IsWord fits) where
       let d = chain_written levels.And (grammar.comparison P) c in
       chain_written levels.Or (grammar.conjunction P) d
 
-  inner_writing : (depth : ℕ) → IsWriting (grammar.expression (grammar.paren depth)) → (s t : State) (x : Expr) → (grammar.paren (suc depth)).word s x t → All fits s.words → IsWrittenTree (tree x) × All fits t.words
+  inner_writing : (depth : ℕ) → IsWriting (grammar.expression (grammar.paren depth))
+      → (s t : State) (x : Expr) → (grammar.paren (suc depth)).word s x t → All fits s.words
+      → IsWrittenTree (tree x) × All fits t.words
   unfolding grammar.paren
   inner_writing depth g s t x r h =
       let inside = r.rest in
@@ -153,5 +167,6 @@ module _ (parts : IsByParts) (fits : Word → Type 0) (w : IsWord fits) where
   paren_written (suc depth) = record { written = inner_writing depth (tower_written (grammar.paren depth) (paren_written depth)) }
 
   -- what is read of such words can be written
-  pub expression_written : (depth : ℕ) (s t : State) (x : Expr) → expression (paren depth) s ≡ Ok (x, t) → All fits s.words → IsWrittenTree (tree x)
+  pub expression_written : (depth : ℕ) (s t : State) (x : Expr)
+      → expression (paren depth) s ≡ Ok (x, t) → All fits s.words → IsWrittenTree (tree x)
   expression_written depth s t x e h = ((tower_written (grammar.paren depth) (paren_written depth)).written s t x ((expression_reader (paren_reader depth)).sound s t x e) h).0

@@ -6,13 +6,13 @@ use denote.Enum.Bare.{sameb}
 use Rattle.nf_grammar.specs.State.{state, next}
 use Rattle.nf_grammar.specs.inner.Parsers as parser
 use Rattle.nf_grammar.specs.inner.Parsers.{bind, and_then, done, choose, restored, in_list, repeated_from, repeated}
-use Rattle.nf_grammar.proofs.Public.ReaderLemmas.{token_reader}
+use Rattle.nf_grammar.proofs.Public.OutcomeLemmas.{ok_value, no_ok}
+use Rattle.nf_grammar.proofs.Public.TokenReaderLemmas.{token_reader}
 use Rattle.nf_parse.specs.contracts.symbol.Sym.{the_type}
 use Rattle.nf_parse.specs.declared.symbol.Sym.{Sym}
 use Rattle.nf_parse.specs.State.{Word, State, of_kind}
 use Rattle.nf_parse.specs.inner.Parsers.{Outcome, Parser, is_kind, token, after, optional, separated}
 use Rattle.nf_parse.proofs.ExpressionReaderLemmas.{same_is}
-use Rattle.nf_parse.proofs.OutcomeLemmas.{ok_value, fault_read}
 
 -- one state stands behind another one: some words later, with as many operators
 pub record IsBehind (s t : State) : Type 0 where
@@ -54,7 +54,8 @@ pub record IsReading {A : Type 0} (fits : Word → Type 0) (p : Parser A) (Good 
 pub kind_word : (k : Sym) (w : Word) (bytes : List ℕ) → of_kind k w ≡ Some bytes → w ≡ (k, bytes)
 kind_word k w bytes e = go (sameb the_type w.0 k) refl e
   where
-    go : (b : Bool) → sameb the_type w.0 k ≡ b → cond b (Some w.1) None ≡ Some bytes → w ≡ (k, bytes)
+    go : (b : Bool) → sameb the_type w.0 k ≡ b → cond b (Some w.1) None ≡ Some bytes
+        → w ≡ (k, bytes)
     go true h e = let f : w.1 ≡ bytes = cc in λ i. (same_is w.0 k h i, f i)
     go false h e = absurd (cc)
 
@@ -82,19 +83,22 @@ module _ (fits : Word → Type 0) where
       given = λ s t y e h. subst Good (ok_value x y s t e).0 g;
     }
 
-    pub looser : {p : Parser A} {Better : A → Type 0} → ((x : A) → Better x → Good x) → IsReading fits p Better → IsReading fits p Good
+    pub looser : {p : Parser A} {Better : A → Type 0} → ((x : A) → Better x → Good x)
+        → IsReading fits p Better → IsReading fits p Good
     looser f r = record { behind = r.behind; given = λ s t x e h. f x (r.given s t x e h) }
 
   -- one part after another
   module _ {A B : Type 0} {p : Parser A} {k : A → Parser B} {Fine : A → Type 0} {Good : B → Type 0}
       (part : IsReading fits p Fine) (rest : (x : A) → IsReading fits (k x) (λ y. Fine x → Good y)) where
-    then_behind : (s t : State) (y : B) (o : Outcome A) → p s ≡ o → bind o k ≡ Ok (y, t) → IsBehind s t
+    then_behind : (s t : State) (y : B) (o : Outcome A) → p s ≡ o → bind o k ≡ Ok (y, t)
+        → IsBehind s t
     then_behind s t y (Ok read) e f = further s read.1 t (part.behind s read.1 read.0 e) ((rest read.0).behind read.1 t y f)
-    then_behind s t y (Err f) e g = absurd (fault_read _ f y t g)
+    then_behind s t y (Err f) e g = absurd (no_ok f (y, t) g)
 
-    then_given : (s t : State) (y : B) (o : Outcome A) → p s ≡ o → bind o k ≡ Ok (y, t) → All fits s.words → Good y
+    then_given : (s t : State) (y : B) (o : Outcome A) → p s ≡ o → bind o k ≡ Ok (y, t)
+        → All fits s.words → Good y
     then_given s t y (Ok read) e f h = (rest read.0).given read.1 t y f (fits_behind fits s read.1 (part.behind s read.1 read.0 e) h) (part.given s read.1 read.0 e h)
-    then_given s t y (Err f) e g h = absurd (fault_read _ f y t g)
+    then_given s t y (Err f) e g h = absurd (no_ok f (y, t) g)
 
     pub then_reading : IsReading fits (and_then p k) Good
     then_reading = record { behind = λ s t y e. then_behind s t y (p s) refl e; given = λ s t y e. then_given s t y (p s) refl e }
@@ -110,7 +114,8 @@ module _ (fits : Word → Type 0) where
     choose_behind s t x true e = yes.behind s t x e
     choose_behind s t x false e = no.behind s t x e
 
-    choose_given : (s t : State) (x : A) (b : Bool) → cond b (p s) (q s) ≡ Ok (x, t) → All fits s.words → Good x
+    choose_given : (s t : State) (x : A) (b : Bool) → cond b (p s) (q s) ≡ Ok (x, t)
+        → All fits s.words → Good x
     choose_given s t x true e = yes.given s t x e
     choose_given s t x false e = no.given s t x e
 
@@ -125,11 +130,12 @@ module _ (fits : Word → Type 0) where
 
   -- an item in front of those that are read later
   module _ {A : Type 0} {q : Parser (List A)} (Good : A → Type 0) (x : A) (later : IsReading fits q (All Good)) where
-    in_list_is : (s t : State) (ys : List A) (o : Outcome (List A)) → q s ≡ o → in_list x o ≡ Ok (ys, t) → IsBehind s t × (All fits s.words → Good x → All Good ys)
+    in_list_is : (s t : State) (ys : List A) (o : Outcome (List A)) → q s ≡ o
+        → in_list x o ≡ Ok (ys, t) → IsBehind s t × (All fits s.words → Good x → All Good ys)
     in_list_is s t ys (Ok read) e f =
         let g = ok_value (x ∷ read.0) ys read.1 t f in
         (subst (λ u. IsBehind s u) g.1 (later.behind s read.1 read.0 e), λ h k. subst (All Good) g.0 (All-cons Good x read.0 k (later.given s read.1 read.0 e h)))
-    in_list_is s t ys (Err f) e g = absurd (fault_read _ f ys t g)
+    in_list_is s t ys (Err f) e g = absurd (no_ok f (ys, t) g)
 
     pub in_list_reading : IsReading fits (λ s. in_list x (q s)) (λ ys. Good x → All Good ys)
     in_list_reading = record { behind = λ s t ys e. (in_list_is s t ys (q s) refl e).0; given = λ s t ys e. (in_list_is s t ys (q s) refl e).1 }
@@ -139,7 +145,9 @@ module _ (fits : Word → Type 0) where
     nothing : IsReading fits (done []) (All Good)
     nothing = done_reading [] (All-nil Good)
 
-    turn_reading : (turns : ℕ) → IsReading fits (choose test (and_then p (λ x s. in_list x (repeated_from test p turns s))) (done [])) (All Good) → IsReading fits (repeated_from test p (suc turns)) (All Good)
+    turn_reading : (turns : ℕ)
+        → IsReading fits (choose test (and_then p (λ x s. in_list x (repeated_from test p turns s))) (done [])) (All Good)
+        → IsReading fits (repeated_from test p (suc turns)) (All Good)
     unfolding choose repeated_from
     turn_reading turns r = record { behind = r.behind; given = r.given }
 
@@ -159,16 +167,18 @@ module _ (fits : Word → Type 0) where
 
   -- an expression by itself, of which the words that it takes are known
   pub record IsReadingAlone {A : Type 0} (p : Parser A) (Good : A → Type 0) : Type 0 where
-    pub before : (s t : State) (x : A) → p s ≡ Ok (x, t) → (taken : List Word) × (s.words ≡ taken ++ t.words)
+    pub before : (s t : State) (x : A) → p s ≡ Ok (x, t)
+        → (taken : List Word) × (s.words ≡ taken ++ t.words)
     pub given : (s t : State) (x : A) → p s ≡ Ok (x, t) → All fits s.words → Good x
 
   module _ {A : Type 0} {p : Parser A} {Good : A → Type 0} (part : IsReadingAlone p Good) where
-    alone_is : (s t : State) (x : A) (o : Outcome A) → p s ≡ o → restored s.room o ≡ Ok (x, t) → IsBehind s t × (All fits s.words → Good x)
+    alone_is : (s t : State) (x : A) (o : Outcome A) → p s ≡ o → restored s.room o ≡ Ok (x, t)
+        → IsBehind s t × (All fits s.words → Good x)
     alone_is s t x (Ok read) e f =
         let g = ok_value read.0 x (state s.room read.1.words) t f in
         let b = part.before s read.1 read.0 e in
         (subst (λ u. IsBehind s u) g.1 (record { before = b.0; words = b.1; room = refl }), λ h. subst Good g.0 (part.given s read.1 read.0 e h))
-    alone_is s t x (Err f) e g = absurd (fault_read _ f x t g)
+    alone_is s t x (Err f) e g = absurd (no_ok f (x, t) g)
 
     pub alone_reading : IsReading fits (parser.alone p) Good
     unfolding parser.alone

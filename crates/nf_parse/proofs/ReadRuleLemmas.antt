@@ -50,7 +50,8 @@ module _ (IsName : List ℕ → Type 0) (IsWrittenExpr : Expr → Type 0) where
   written_some None h = All-nil IsWrittenExpr
   written_some (Some x) h = All-cons IsWrittenExpr x [] h (All-nil IsWrittenExpr)
 
-  written_list : (x : Option (List Entry)) → OfSome (All IsWrittenEntry) x → All IsWrittenEntry (unwrap_or x [])
+  written_list : (x : Option (List Entry)) → OfSome (All IsWrittenEntry) x
+      → All IsWrittenEntry (unwrap_or x [])
   written_list None h = All-nil IsWrittenEntry
   written_list (Some x) h = h
 
@@ -58,7 +59,9 @@ module _ (IsName : List ℕ → Type 0) (IsWrittenExpr : Expr → Type 0) where
     abbrev rule_of : Rule
     rule_of = record { head = head; body = body; filter = filter; entries = mapped; start = start; stop = stop }
 
-    written_rule : IsName head → IsWrittenBody body → OfSome IsWrittenExpr filter → All IsWrittenEntry mapped → OfSome IsWrittenExpr start → OfSome IsWrittenExpr stop → IsGoodRule rule_of
+    written_rule : IsName head → IsWrittenBody body → OfSome IsWrittenExpr filter
+        → All IsWrittenEntry mapped → OfSome IsWrittenExpr start → OfSome IsWrittenExpr stop
+        → IsGoodRule rule_of
     written_rule h b f m s t = record {
       head = h;
       labels = All-weaker IsWrittenAtom (λ (a : Atom). IsName a.label) (λ a w. w.label) (atoms_of body) b;
@@ -75,7 +78,8 @@ module _ (IsName : List ℕ → Type 0) (IsWrittenExpr : Expr → Type 0) where
     name_reading : IsReading fits (token kind.Ident) IsName
     name_reading = looser fits names (token_reading fits kind.Ident)
 
-    written_atom : (word : List ℕ) (name : Option (List ℕ)) → IsName word → OfSome IsName name → IsWrittenAtom (atom_of word name)
+    written_atom : (word : List ℕ) (name : Option (List ℕ)) → IsName word → OfSome IsName name
+        → IsWrittenAtom (atom_of word name)
     written_atom word None h k = record { label = h; name = h }
     written_atom word (Some name) h k = record { label = h; name = k }
 
@@ -84,12 +88,14 @@ module _ (IsName : List ℕ → Type 0) (IsWrittenExpr : Expr → Type 0) where
     atom_reading = then_reading fits name_reading (λ word. then_reading fits (optional_reading fits (is_kind kind.Colon) (after_reading fits kind.Colon name_reading))
         (λ name. done_reading fits (atom_of word name) (λ k h. written_atom word name h k)))
 
-    pair_reading : (first : Atom) → IsReading fits (pair first) (λ b. IsWrittenAtom first → IsWrittenBody b)
+    pair_reading : (first : Atom)
+        → IsReading fits (pair first) (λ b. IsWrittenAtom first → IsWrittenBody b)
     unfolding pair
     pair_reading first = then_reading fits (table_reading fits op_of_word) (λ o. then_reading fits atom_reading
         (λ second. done_reading fits (bodies.Pair first o second) (λ k u h. All-cons IsWrittenAtom first (second ∷ []) h (All-cons IsWrittenAtom second [] k (All-nil IsWrittenAtom)))))
 
-    exclusive_reading : (first : Atom) → IsReading fits (exclusive first) (λ b. IsWrittenAtom first → IsWrittenBody b)
+    exclusive_reading : (first : Atom)
+        → IsReading fits (exclusive first) (λ b. IsWrittenAtom first → IsWrittenBody b)
     unfolding exclusive
     exclusive_reading first = after_reading fits kind.Unless (then_reading fits (table_reading fits xop_of_word) (λ x. then_reading fits atom_reading
         (λ second. done_reading fits (bodies.Unless first x second) (λ k u h. All-cons IsWrittenAtom first (second ∷ []) h (All-cons IsWrittenAtom second [] k (All-nil IsWrittenAtom))))))
@@ -127,7 +133,8 @@ module _ (IsName : List ℕ → Type 0) (IsWrittenExpr : Expr → Type 0) where
       rule_rest head = after kind.Defines (and_then rule_body (λ body. and_then (optional (is_kind kind.Where) (clause p kind.Where)) (λ filter. and_then (optional (is_kind kind.Map) (entries p)) (λ mapped.
           and_then (optional (is_kind kind.Begin) (clause p kind.Begin)) (λ start. and_then (optional (is_kind kind.End) (clause p kind.End)) (λ stop. done (rule_of head body filter (unwrap_or mapped []) start stop)))))))
 
-      rest_reading : (head : List ℕ) → IsReading fits (rule_rest head) (λ r. IsName head → IsGoodRule r)
+      rest_reading : (head : List ℕ)
+          → IsReading fits (rule_rest head) (λ r. IsName head → IsGoodRule r)
       rest_reading head = after_reading fits kind.Defines (then_reading fits body_reading (λ body.
           then_reading fits (optional_reading fits (is_kind kind.Where) (clause_reading kind.Where)) (λ filter. then_reading fits (optional_reading fits (is_kind kind.Map) entries_reading) (λ mapped.
           then_reading fits (optional_reading fits (is_kind kind.Begin) (clause_reading kind.Begin)) (λ start. then_reading fits (optional_reading fits (is_kind kind.End) (clause_reading kind.End)) (λ stop.
@@ -166,15 +173,18 @@ module _ (IsName : List ℕ → Type 0) (IsWrittenExpr : Expr → Type 0) where
       item_reading = choose_reading fits is_ident (then_reading fits rule_reading (λ r. done_reading fits (loose r) (λ h. h)))
           (then_reading fits module_reading (λ m. done_reading fits (named m) (λ h. h)))
 
-      written_in_front : (rule : Rule) (modules : List Module) → IsGoodRule rule → All IsWrittenModule modules → All IsWrittenModule (in_front rule modules)
+      written_in_front : (rule : Rule) (modules : List Module) → IsGoodRule rule
+          → All IsWrittenModule modules → All IsWrittenModule (in_front rule modules)
       written_in_front rule [] h k = All-cons IsWrittenModule (unnamed (rule ∷ [])) [] (All-cons IsGoodRule rule [] h (All-nil IsGoodRule)) (All-nil IsWrittenModule)
       written_in_front rule (m ∷ modules) h k = go m.name
         where
-          go : (name : Option (List ℕ)) → All IsWrittenModule (elim name [ None ↦ unnamed (rule ∷ m.rules) ∷ modules | Some n ↦ unnamed (rule ∷ []) ∷ m ∷ modules ])
+          go : (name : Option (List ℕ))
+              → All IsWrittenModule (elim name [ None ↦ unnamed (rule ∷ m.rules) ∷ modules | Some n ↦ unnamed (rule ∷ []) ∷ m ∷ modules ])
           go None = All-cons IsWrittenModule (unnamed (rule ∷ m.rules)) modules (All-cons IsGoodRule rule m.rules h (All-head IsWrittenModule m modules k)) (All-tail IsWrittenModule m modules k)
           go (Some n) = All-cons IsWrittenModule (unnamed (rule ∷ [])) (m ∷ modules) (All-cons IsGoodRule rule [] h (All-nil IsGoodRule)) k
 
-      written_modules : (items : List Item) → All IsWrittenItem items → All IsWrittenModule (modules_of items)
+      written_modules : (items : List Item) → All IsWrittenItem items
+          → All IsWrittenModule (modules_of items)
       unfolding modules_of IsWrittenItem
       written_modules [] h = All-nil IsWrittenModule
       written_modules (loose r ∷ items) h = written_in_front r (modules_of items) (All-head IsWrittenItem (loose r) items h) (written_modules items (All-tail IsWrittenItem (loose r) items h))

@@ -10,14 +10,14 @@ use Rattle.nf_parse.specs.declared.symbol.Sym.{Sym}
 use Rattle.nf_parse.specs.declared.symbol.Sym.TheVariants as kind
 use Rattle.nf_grammar.specs.State.{next}
 use Rattle.nf_grammar.specs.inner.Parsers.{bind, and_then, done, in_list, choose, repeated_from, repeated}
-use Rattle.nf_grammar.proofs.Public.ReaderLemmas.{no_ok, token_shorter}
+use Rattle.nf_grammar.proofs.Public.OutcomeLemmas.{ok_value, no_ok}
+use Rattle.nf_grammar.proofs.Public.TokenReaderLemmas.{token_shorter}
 use Rattle.nf_parse.specs.State.{Word, State, of_kind}
 use Rattle.nf_parse.specs.Answers.{rules_in, entries_in, size_of}
 use Rattle.nf_parse.specs.Grammar.{Item, loose, named, unnamed, in_front, modules_of}
 use Rattle.nf_parse.specs.inner.Parsers.{Outcome, Parser, is_kind, token, after, enclosed, optional, separated}
 use Rattle.nf_parse.specs.inner.Reading.{expression, paren}
 use Rattle.nf_parse.specs.inner.RuleReading.{is_ident, clause, entry, entries, rule, rules, module_word, item, file}
-use Rattle.nf_parse.proofs.OutcomeLemmas.{ok_value}
 use Rattle.nf_parse.proofs.ReadPartLemmas.{IsReading, not_longer, token_reading, optional_reading}
 use Rattle.nf_parse.proofs.ReadRuleLemmas.{imports_reading, body_reading, clause_reading}
 use Rattle.nf_parse.proofs.FileLemmas.{alone_at}
@@ -30,14 +30,18 @@ Any word = Unit
 record IsSized {A : Type 0} (over : ℕ) (p : Parser A) (size : A → ℕ) : Type 0 where
   sized : (s t : State) (x : A) → p s ≡ Ok (x, t) → size x + length t.words ≤ over + length s.words
 
-then_sized : {A B : Type 0} {over : ℕ} {p : Parser A} {k : A → Parser B} {size : A → ℕ} {total : B → ℕ} → IsSized over p size → ((x : A) → IsSized (size x) (k x) total) → IsSized over (and_then p k) total
+then_sized : {A B : Type 0} {over : ℕ} {p : Parser A} {k : A → Parser B} {size : A → ℕ} {total : B → ℕ}
+    → IsSized over p size → ((x : A) → IsSized (size x) (k x) total)
+    → IsSized over (and_then p k) total
 then_sized {A} {B} {over} {p} {k} {size} {total} a b = record { sized = λ s t y e. go s t y (p s) refl e }
   where
-    go : (s t : State) (y : B) (o : Outcome A) → p s ≡ o → bind o k ≡ Ok (y, t) → total y + length t.words ≤ over + length s.words
+    go : (s t : State) (y : B) (o : Outcome A) → p s ≡ o → bind o k ≡ Ok (y, t)
+        → total y + length t.words ≤ over + length s.words
     go s t y (Ok read) h e = omega (arith, a.sized s read.1 read.0 h, (b read.0).sized read.1 t y e)
     go s t y (Err f) h e = absurd (no_ok f (y, t) e)
 
-reading_sized : {A : Type 0} {p : Parser A} {Good : A → Type 0} (over : ℕ) → IsReading Any p Good → IsSized over p (λ x. over)
+reading_sized : {A : Type 0} {p : Parser A} {Good : A → Type 0} (over : ℕ) → IsReading Any p Good
+    → IsSized over p (λ x. over)
 reading_sized over r = record { sized = λ s t x e. omega (arith, not_longer s t (r.behind s t x e)) }
 
 done_sized : {A : Type 0} (x : A) (size : A → ℕ) → IsSized (size x) (done x) size
@@ -50,22 +54,28 @@ word_sized k over = record { sized = λ s t x e. omega (arith, (token_shorter (o
 token_sized : (k : Sym) (over : ℕ) → IsSized over (token k) (λ x. over)
 token_sized k over = reading_sized over (token_reading Any k)
 
-after_sized : {A : Type 0} {over : ℕ} {p : Parser A} {size : A → ℕ} (k : Sym) → IsSized over p size → IsSized over (after k p) size
+after_sized : {A : Type 0} {over : ℕ} {p : Parser A} {size : A → ℕ} (k : Sym) → IsSized over p size
+    → IsSized over (after k p) size
 after_sized {A} {over} k a = then_sized (token_sized k over) (λ bytes. a)
 
-enclosed_sized : {A : Type 0} {over : ℕ} {p : Parser A} {size : A → ℕ} (opening closing : Sym) → IsSized over p size → IsSized over (enclosed opening p closing) size
+enclosed_sized : {A : Type 0} {over : ℕ} {p : Parser A} {size : A → ℕ} (opening closing : Sym)
+    → IsSized over p size → IsSized over (enclosed opening p closing) size
 enclosed_sized {A} {over} {p} {size} opening closing a = after_sized opening (then_sized a (λ x. after_sized closing (done_sized x size)))
 
 -- what is left over before is left over behind, too
-kept_sized : {A : Type 0} {over : ℕ} {p : Parser A} {size : A → ℕ} (n : ℕ) → IsSized over p size → IsSized (n + over) p (λ x. n + size x)
+kept_sized : {A : Type 0} {over : ℕ} {p : Parser A} {size : A → ℕ} (n : ℕ) → IsSized over p size
+    → IsSized (n + over) p (λ x. n + size x)
 kept_sized n a = record { sized = λ s t x e. omega (arith, a.sized s t x e) }
 
-counted_sized : {A : Type 0} {over : ℕ} {p : Parser A} {size total : A → ℕ} → ((x : A) → size x ≡ total x) → IsSized over p size → IsSized over p total
+counted_sized : {A : Type 0} {over : ℕ} {p : Parser A} {size total : A → ℕ}
+    → ((x : A) → size x ≡ total x) → IsSized over p size → IsSized over p total
 counted_sized same a = record { sized = λ s t x e. omega (arith, a.sized s t x e, same x) }
 
 -- one part or another
-either_size : {A : Type 0} {over : ℕ} {p q : Parser A} {size : A → ℕ} → IsSized over p size → IsSized over q size
-    → (s t : State) (x : A) (b : Bool) → cond b (p s) (q s) ≡ Ok (x, t) → size x + length t.words ≤ over + length s.words
+either_size : {A : Type 0} {over : ℕ} {p q : Parser A} {size : A → ℕ} → IsSized over p size
+    → IsSized over q size
+    → (s t : State) (x : A) (b : Bool) → cond b (p s) (q s) ≡ Ok (x, t)
+    → size x + length t.words ≤ over + length s.words
 either_size a b s t x true e = a.sized s t x e
 either_size a b s t x false e = b.sized s t x e
 
@@ -80,7 +90,8 @@ module _ {A : Type 0} {p : Parser (List A)} (test : Option Word → Bool) (part 
 
 -- an item in front of those that are read later
 module _ {A : Type 0} {q : Parser (List A)} (size : A → ℕ) (x : A) (later : IsSized 0 q (sum_by size)) where
-  front_size : (s t : State) (xs : List A) (o : Outcome (List A)) → q s ≡ o → in_list x o ≡ Ok (xs, t) → sum_by size xs + length t.words ≤ size x + length s.words
+  front_size : (s t : State) (xs : List A) (o : Outcome (List A)) → q s ≡ o
+      → in_list x o ≡ Ok (xs, t) → sum_by size xs + length t.words ≤ size x + length s.words
   front_size s t xs (Ok read) e f =
       let g = ok_value (x ∷ read.0) xs read.1 t f in
       omega (arith, later.sized s read.1 read.0 e, sum_by-cons size x read.0, ap (sum_by size) g.0, ap (λ (u : State). length u.words) g.1)
@@ -91,7 +102,8 @@ module _ {A : Type 0} {q : Parser (List A)} (size : A → ℕ) (x : A) (later : 
 
 -- a list of parts, of which each counts
 module _ {A : Type 0} {p : Parser A} {size : A → ℕ} (part : IsSized 0 p size) where
-  turns_sized : (test : Option Word → Bool) (turns : ℕ) → IsSized 0 (repeated_from test p turns) (sum_by size)
+  turns_sized : (test : Option Word → Bool) (turns : ℕ)
+      → IsSized 0 (repeated_from test p turns) (sum_by size)
   unfolding repeated_from
   turns_sized test zero = done_sized [] (sum_by size)
   turns_sized test (suc turns) = record {
@@ -107,11 +119,13 @@ ones [] = refl
 ones (x ∷ xs) = omega (arith, ones xs, sum_by-cons (λ x. 1) x xs)
 
 -- an item in front of a list counts one
-one_more : {A : Type 0} (x : A) (xs : List A) → IsSized (1 + length xs) (done (x ∷ xs)) (λ ys. length ys)
+one_more : {A : Type 0} (x : A) (xs : List A)
+    → IsSized (1 + length xs) (done (x ∷ xs)) (λ ys. length ys)
 one_more x xs = record { sized = λ s t ys e. let g = ok_value (x ∷ xs) ys s t e in omega (arith, ap length g.0, ap (λ (u : State). length u.words) g.1) }
 
 -- parts with separators between them
-separated_sized : {A : Type 0} {p : Parser A} (k : Sym) → IsSized 0 p (λ x. 1) → IsSized 0 (separated k p) (λ xs. length xs)
+separated_sized : {A : Type 0} {p : Parser A} (k : Sym) → IsSized 0 p (λ x. 1)
+    → IsSized 0 (separated k p) (λ xs. length xs)
 separated_sized k part = then_sized part (λ x. then_sized (kept_sized 1 (counted_sized ones (repeated_sized (after_sized k part) (is_kind k)))) (λ xs. one_more x xs))
 
 -- how much a rule, a module and an item count: each rule and each entry of its map
@@ -129,15 +143,18 @@ rules_size : (rs : List Rule) → length rs + length (entries_in rs) ≡ sum_by 
 rules_size [] = refl
 rules_size (r ∷ rs) = omega (arith, rules_size rs, sum_by-cons rule_size r rs, length-append r.entries (entries_in rs))
 
-front_rules : (r : Rule) (modules : List Module) → rules_in (in_front r modules) ≡ r ∷ rules_in modules
+front_rules : (r : Rule) (modules : List Module)
+    → rules_in (in_front r modules) ≡ r ∷ rules_in modules
 front_rules r [] = refl
 front_rules r (m ∷ modules) = go m.name
   where
-    go : (name : Option (List ℕ)) → rules_in (elim name [ None ↦ unnamed (r ∷ m.rules) ∷ modules | Some n ↦ unnamed (r ∷ []) ∷ m ∷ modules ]) ≡ r ∷ (m.rules ++ rules_in modules)
+    go : (name : Option (List ℕ))
+        → rules_in (elim name [ None ↦ unnamed (r ∷ m.rules) ∷ modules | Some n ↦ unnamed (r ∷ []) ∷ m ∷ modules ]) ≡ r ∷ (m.rules ++ rules_in modules)
     go None = refl
     go (Some n) = refl
 
-items_size : (items : List Item) → sum_by rule_size (rules_in (modules_of items)) ≡ sum_by item_size items
+items_size : (items : List Item)
+    → sum_by rule_size (rules_in (modules_of items)) ≡ sum_by item_size items
 unfolding modules_of item_size
 items_size [] = refl
 items_size (loose r ∷ items) =
@@ -151,7 +168,8 @@ module _ (depth : ℕ) where
   clause_sized : (k : Sym) (over : ℕ) → IsSized over (clause p k) (λ x. over)
   clause_sized k over = reading_sized over (clause_reading (λ bytes. Unit) (λ x. Unit) Any (λ bytes h. tt) p (alone_at depth) k)
 
-  optional_clause_sized : (k : Sym) (over : ℕ) → IsSized over (optional (is_kind k) (clause p k)) (λ x. over)
+  optional_clause_sized : (k : Sym) (over : ℕ)
+      → IsSized over (optional (is_kind k) (clause p k)) (λ x. over)
   optional_clause_sized k over = reading_sized over (optional_reading Any (is_kind k) (clause_reading (λ bytes. Unit) (λ x. Unit) Any (λ bytes h. tt) p (alone_at depth) k))
 
   entry_sized : IsSized 0 (entry p) (λ x. 1)
@@ -191,5 +209,6 @@ module _ (depth : ℕ) where
   file_sized = then_sized (repeated_sized item_sized is_some) (λ items. subst (λ n. IsSized n (done (modules_of items)) (λ modules. sum_by rule_size (rules_in modules))) (items_size items) (done_sized (modules_of items) (λ modules. sum_by rule_size (rules_in modules))))
 
   -- a file has at most as many rules and entries of maps as words
-  pub file_size : (s t : State) (modules : List Module) → file p s ≡ Ok (modules, t) → size_of modules ≤ length s.words
+  pub file_size : (s t : State) (modules : List Module) → file p s ≡ Ok (modules, t)
+      → size_of modules ≤ length s.words
   file_size s t modules e = omega (arith, file_sized.sized s t modules e, rules_size (rules_in modules))

@@ -1,7 +1,7 @@
 -- The readers of rules, modules and files go by their productions.
 use Rattle.std.proofs.Common.{◌≡◌, ◌⊎◌, inl, inr, ℕ, Bool, true, false, not, ◌&&◌, ◌||◌, List, [], ◌∷◌, refl, sym, ap, ◌∙◌, subst, Option, Some, None, Ok, Err, is_some, true≢false}
 use Rattle.std.specs.List.{list_all}
-use Rattle.std.proofs.lemmas.Bool.{and_parts}
+use Rattle.std.proofs.lemmas.Bool.{and_parts, not-true}
 use denote.Enum.Bare.{sameb, true_same}
 use Rattle.nf_core.specs.declared.limits.TheConstants.{MOST_OPEN}
 use Rattle.nf_core.specs.declared.trees.Expr.{Expr}
@@ -12,7 +12,11 @@ use Rattle.nf_grammar.specs.State.{next, next_of}
 use Rattle.nf_grammar.specs.Parts as part
 use Rattle.nf_grammar.specs.inner.Parsers as parser
 use Rattle.nf_grammar.specs.inner.Parsers.{place, in_table}
-use Rattle.nf_grammar.proofs.Public.ReaderLemmas.{Next, always, IsReader, IsShorter, done_reader, token_reader, then_reader, choose_reader, repeated_reader, alone_reader, weaken, forward, token_shorter, then_shorter, IsTaking, then_taking, choose_taking, weaken_taking, repeated_ends, ok_is, no_ok}
+use Rattle.nf_grammar.proofs.Public.OutcomeLemmas.{ok_is, no_ok}
+use Rattle.nf_grammar.proofs.Public.ReaderLemmas.{Next, always, IsReader, IsShorter, done_reader, then_reader, choose_reader, alone_reader, weaken, forward}
+use Rattle.nf_grammar.proofs.Public.TokenReaderLemmas.{token_reader, token_shorter}
+use Rattle.nf_grammar.proofs.Public.RepeatedReaderLemmas.{repeated_reader, repeated_ends}
+use Rattle.nf_grammar.proofs.Public.TakingReaderLemmas.{then_shorter, IsTaking, then_taking, choose_taking, weaken_taking}
 use Rattle.nf_parse.specs.contracts.symbol.Sym.{the_type}
 use Rattle.nf_parse.specs.declared.symbol.Sym.{Sym}
 use Rattle.nf_parse.specs.declared.symbol.Sym.TheVariants as sym
@@ -28,14 +32,19 @@ use Rattle.nf_parse.specs.inner.RuleReading.{op_of_word, xop_of_word, is_op, is_
 use Rattle.nf_parse.proofs.ExpressionReaderLemmas.{IsKind, same_is, apart, word_reader, word_taking, after_reader, after_taking, enclosed_reader, EndsExpression, ends_at, ends_at_end, IsNoOperator, none_at, comma_is_none, close_brace_is_none, expression_reader, paren_reader}
 
 -- [ part ]
-pub optional_reader : {A : Type 0} {test : Option Word → Bool} {p : Parser A} {P : Production A} {begin stop_part stop : Next Word} → IsReader p P begin stop_part
-    → ((n : Option Word) → stop n → stop_part n) → ((n : Option Word) → begin n → test n ≡ true) → ((n : Option Word) → stop n → test n ≡ false)
+pub optional_reader : {A : Type 0} {test : Option Word → Bool} {p : Parser A} {P : Production A} {begin stop_part stop : Next Word}
+    → IsReader p P begin stop_part
+    → ((n : Option Word) → stop n → stop_part n) → ((n : Option Word) → begin n → test n ≡ true)
+    → ((n : Option Word) → stop n → test n ≡ false)
     → IsReader (named.optional test p) (part.optional P) (λ n. begin n ⊎ stop n) stop
 optional_reader {stop} r stops takes leaves = choose_reader (then_reader r (λ x. done_reader (Some x) stop) stops) (done_reader None stop) takes leaves
 
 -- part { separator part }
-pub separated_reader : {A : Type 0} (separator : Sym) {p : Parser A} {P : Production A} {begin stop_part stop : Next Word} → IsReader p P begin stop_part
-    → ((n : Option Word) → IsKind separator n → stop_part n) → ((n : Option Word) → stop n → stop_part n) → ((n : Option Word) → stop n → is_kind separator n ≡ false)
+pub separated_reader : {A : Type 0} (separator : Sym) {p : Parser A} {P : Production A} {begin stop_part stop : Next Word}
+    → IsReader p P begin stop_part
+    → ((n : Option Word) → IsKind separator n → stop_part n)
+    → ((n : Option Word) → stop n → stop_part n)
+    → ((n : Option Word) → stop n → is_kind separator n ≡ false)
     → IsReader (named.separated separator p) (part.separated (of_kind separator) P) begin stop
 separated_reader separator {p} {stop} r again stops leaves = then_reader r
     (λ x. then_reader (repeated_reader (after_reader separator r) (then_shorter (named.token separator) (λ bytes. p) (token_shorter (of_kind separator)) (λ bytes s. forward r s)) again stops (λ n h. h) leaves)
@@ -50,7 +59,9 @@ In (k ∷ ks) n = IsKind k n ⊎ In ks n
 pub Follows : List Sym → Next Word
 Follows ks n = (n ≡ None) ⊎ In ks n
 
-in_kinds : (ks : List Sym) (P : Sym → Type 0) (test : Sym → Bool) → ((k : Sym) → test k ≡ true → P k) → list_all test ks ≡ true → (w : Word) → In ks (Some w) → P w.0
+in_kinds : (ks : List Sym) (P : Sym → Type 0) (test : Sym → Bool)
+    → ((k : Sym) → test k ≡ true → P k) → list_all test ks ≡ true → (w : Word) → In ks (Some w)
+    → P w.0
 unfolding In
 in_kinds [] P test f h w i = absurd i
 in_kinds (k ∷ ks) P test f h w (inl e) = subst P (sym (same_is w.0 k e)) (f k (and_parts (test k) (list_all test ks) h).0)
@@ -62,19 +73,17 @@ no_in [] i = i
 no_in (k ∷ ks) (inl e) = absurd (true≢false (sym e))
 no_in (k ∷ ks) (inr i) = no_in ks i
 
-not_true : (b : Bool) → not b ≡ true → b ≡ false
-not_true true h = absurd (true≢false (sym h))
-not_true false h = refl
-
 -- words of some kinds don't pass a test of kinds
 module _ (ks : List Sym) (test : Sym → Bool) (none : list_all (λ k. not (test k)) ks ≡ true) where
-  pub follows_none : (n : Option Word) → Follows ks n → (passes : Option Word → Bool) → passes None ≡ false → ((w : Word) → passes (Some w) ≡ test w.0) → passes n ≡ false
+  pub follows_none : (n : Option Word) → Follows ks n → (passes : Option Word → Bool)
+      → passes None ≡ false → ((w : Word) → passes (Some w) ≡ test w.0) → passes n ≡ false
   unfolding Follows
   follows_none None h passes e f = e
   follows_none (Some w) (inl d) passes e f = absurd (cc)
-  follows_none (Some w) (inr i) passes e f = f w ∙ in_kinds ks (λ k. test k ≡ false) (λ k. not (test k)) (λ k h. not_true (test k) h) none w i
+  follows_none (Some w) (inr i) passes e f = f w ∙ in_kinds ks (λ k. test k ≡ false) (λ k. not (test k)) (λ k h. not-true (test k) h) none w i
 
-pub follows_apart : (ks : List Sym) (j : Sym) → list_all (λ k. not (sameb the_type k j)) ks ≡ true → (n : Option Word) → Follows ks n → is_kind j n ≡ false
+pub follows_apart : (ks : List Sym) (j : Sym) → list_all (λ k. not (sameb the_type k j)) ks ≡ true
+    → (n : Option Word) → Follows ks n → is_kind j n ≡ false
 follows_apart ks j none n h = follows_none ks (λ k. sameb the_type k j) none n h (is_kind j) refl (λ w. refl)
 
 -- no operators of expressions
@@ -87,18 +96,20 @@ is_none k h =
     let b = and_parts _ _ a.1 in
     let c = and_parts _ _ b.1 in
     let d = and_parts _ _ c.1 in
-    none_at k (not_true _ a.0) (not_true _ b.0) (not_true _ c.0) (not_true _ d.0) (not_true _ d.1)
+    none_at k (not-true _ a.0) (not-true _ b.0) (not-true _ c.0) (not-true _ d.0) (not-true _ d.1)
 
 kind_self : (w : Word) → IsKind w.0 (Some w)
 kind_self w = true_same the_type w.0 w.0 refl
 
-pub follows_ends : (ks : List Sym) → list_all is_no_operator ks ≡ true → (n : Option Word) → Follows ks n → EndsExpression n
+pub follows_ends : (ks : List Sym) → list_all is_no_operator ks ≡ true → (n : Option Word)
+    → Follows ks n → EndsExpression n
 unfolding Follows
 follows_ends ks all None h = ends_at_end
 follows_ends ks all (Some w) (inl d) = absurd (cc)
 follows_ends ks all (Some w) (inr i) = ends_at w.0 (in_kinds ks IsNoOperator is_no_operator is_none all w i) (Some w) (kind_self w)
 
-one_more : (k : Sym) (ks : List Sym) (n : Option Word) → IsKind k n ⊎ Follows ks n → Follows (k ∷ ks) n
+one_more : (k : Sym) (ks : List Sym) (n : Option Word) → IsKind k n ⊎ Follows ks n
+    → Follows (k ∷ ks) n
 unfolding Follows In
 one_more k ks n (inl h) = inr (inl h)
 one_more k ks n (inr (inl e)) = inl e
@@ -127,11 +138,13 @@ xop_reader = weaken (λ n h. tt) (λ n h. h) (token_reader xop_of_word)
 no_colon : (n : Option Word) → Follows behind_body n → is_kind sym.Colon n ≡ false
 no_colon = follows_apart behind_body sym.Colon refl
 
-pair_reader : (first : Atom) → IsReader (reading.pair first) (part.and_then (part.token op_of_word) (λ o. part.and_then grammar.side (λ second. part.done (body.Pair first o second)))) IsOp (Follows behind_body)
+pair_reader : (first : Atom)
+    → IsReader (reading.pair first) (part.and_then (part.token op_of_word) (λ o. part.and_then grammar.side (λ second. part.done (body.Pair first o second)))) IsOp (Follows behind_body)
 unfolding reading.pair
 pair_reader first = then_reader op_reader (λ o. then_reader (weaken (λ n h. h) no_colon atom_reader) (λ second. done_reader (body.Pair first o second) (Follows behind_body)) (λ n h. h)) (λ n h. tt)
 
-exclusive_reader : (first : Atom) → IsReader (reading.exclusive first) (grammar.behind sym.Unless (part.and_then (part.token xop_of_word) (λ x. part.and_then grammar.side (λ second. part.done (body.Unless first x second))))) (IsKind sym.Unless) (Follows behind_body)
+exclusive_reader : (first : Atom)
+    → IsReader (reading.exclusive first) (grammar.behind sym.Unless (part.and_then (part.token xop_of_word) (λ x. part.and_then grammar.side (λ second. part.done (body.Unless first x second))))) (IsKind sym.Unless) (Follows behind_body)
 unfolding reading.exclusive
 exclusive_reader first = after_reader sym.Unless (then_reader xop_reader (λ x. then_reader (weaken (λ n h. h) no_colon atom_reader) (λ second. done_reader (body.Unless first x second) (Follows behind_body)) (λ n h. h)) (λ n h. tt))
 
@@ -153,7 +166,8 @@ unfolding op_of
 body_ends n h = ends (is_op n) (is_kind sym.Unless n)
     (follows_none behind_body (λ k. is_some (op_of k)) refl n h is_op refl (λ w. refl)) (follows_apart behind_body sym.Unless refl n h)
 
-op_is_no_colon : (k : Sym) → is_some (op_of k) ≡ true → (b : Bool) → sameb the_type k sym.Colon ≡ b → b ≡ false
+op_is_no_colon : (k : Sym) → is_some (op_of k) ≡ true → (b : Bool) → sameb the_type k sym.Colon ≡ b
+    → b ≡ false
 unfolding op_of
 op_is_no_colon k h true e = let f : is_some (op_of sym.Colon) ≡ true = subst (λ z. is_some (op_of z) ≡ true) (same_is k sym.Colon e) h in absurd (true≢false (sym f))
 op_is_no_colon k h false e = refl
@@ -162,7 +176,8 @@ op_no_colon : (n : Option Word) → IsOp n → is_kind sym.Colon n ≡ false
 op_no_colon None h = refl
 op_no_colon (Some w) h = op_is_no_colon w.0 h (sameb the_type w.0 sym.Colon) refl
 
-body_no_colon : (n : Option Word) → Follows behind_body n ⊎ (IsOp n ⊎ IsKind sym.Unless n) → is_kind sym.Colon n ≡ false
+body_no_colon : (n : Option Word) → Follows behind_body n ⊎ (IsOp n ⊎ IsKind sym.Unless n)
+    → is_kind sym.Colon n ≡ false
 body_no_colon n (inl h) = no_colon n h
 body_no_colon n (inr (inr h)) = apart sym.Unless sym.Colon refl n h
 body_no_colon n (inr (inl h)) = op_no_colon n h
@@ -183,17 +198,16 @@ module _ (depth : ℕ) where
   abbrev pub limited : Parser Expr
   limited = expressions.expression (expressions.paren depth)
 
-  pub clause_reader : (k : Sym) → IsReader (reading.clause limited k) (grammar.clause depth k) (IsKind k) EndsExpression
+  pub clause_reader : (k : Sym)
+      → IsReader (reading.clause limited k) (grammar.clause depth k) (IsKind k) EndsExpression
   unfolding reading.clause
   clause_reader k = after_reader k (alone_reader (expression_reader (paren_reader depth)))
 
-  pub optional_clause_reader : (k : Sym) (ks : List Sym) → list_all (λ j. is_no_operator j) ks ≡ true → list_all (λ j. not (sameb the_type j k)) ks ≡ true
+  pub optional_clause_reader : (k : Sym) (ks : List Sym)
+      → list_all (λ j. is_no_operator j) ks ≡ true
+      → list_all (λ j. not (sameb the_type j k)) ks ≡ true
       → IsReader (named.optional (is_kind k) (reading.clause limited k)) (part.optional (grammar.clause depth k)) (Follows (k ∷ ks)) (Follows ks)
   optional_clause_reader k ks ended other = weaken (one_more k ks) (λ n h. h) (optional_reader (clause_reader k) (follows_ends ks ended) (λ n h. h) (follows_apart ks k other))
-
-  -- the words behind an entry of a map
-  abbrev behind_entry : List Sym
-  behind_entry = sym.Comma ∷ sym.CloseBrace ∷ []
 
   pub entry_reader : IsReader (reading.entry limited) (grammar.entry depth) (IsKind sym.Ident) EndsExpression
   unfolding reading.entry
@@ -237,9 +251,6 @@ module _ (depth : ℕ) where
       (λ names. then_reader rules_reader (λ rules. done_reader _ (IsKind sym.CloseBrace)) (λ n h. h)) (λ n h. h)) (λ n h. h)) (λ n h. tt))
 
   -- what stands behind an item of a file
-  behind_item : List Sym
-  behind_item = sym.Ident ∷ sym.Module ∷ []
-
   abbrev EndsItem : Next Word
   EndsItem n = (n ≡ None) ⊎ (IsKind sym.Ident n ⊎ IsKind sym.Module n)
 
@@ -277,13 +288,17 @@ module _ (depth : ℕ) where
       go [] e = refl
       go (w ∷ ws) e = absurd (true≢false e)
 
-  items_end : (s t : State) (modules : List Module) (o : Outcome (List Item)) → parser.repeated is_some (reading.item limited) s ≡ o → parser.bind o (λ items. parser.done (grammar.modules_of items)) ≡ Ok (modules, t) → t.words ≡ []
+  items_end : (s t : State) (modules : List Module) (o : Outcome (List Item))
+      → parser.repeated is_some (reading.item limited) s ≡ o
+      → parser.bind o (λ items. parser.done (grammar.modules_of items)) ≡ Ok (modules, t)
+      → t.words ≡ []
   items_end s t modules (Ok read) e f =
       let same : read.1 ≡ t = ap (λ (r : List Module × State). r.1) (ok_is _ _ _ refl f) in
       subst (λ (u : State). u.words ≡ []) same (ended read.1 (repeated_ends is_some (reading.item limited) item_taking.shorter s read.1 read.0 e))
   items_end s t modules (Err g) e f = absurd (no_ok g (modules, t) f)
 
-  pub file_to_end : (s t : State) (modules : List Module) → reading.file limited s ≡ Ok (modules, t) → t.words ≡ []
+  pub file_to_end : (s t : State) (modules : List Module) → reading.file limited s ≡ Ok (modules, t)
+      → t.words ≡ []
   unfolding reading.file
   file_to_end s t modules e = items_end s t modules (parser.repeated is_some (reading.item limited) s) refl e
 

@@ -36,7 +36,8 @@ module _ (source : List ℕ) (found : List Token) (s new : State) (at : s ≡ st
   reads_source q e = subst (λ z. Reads (file limited z) q new) at (subst (λ q. Reads (file limited s) q new) e reads)
 
 -- a source has at least as many bytes as tokens
-few_tokens : (source : List ℕ) (place : ℕ) (found : List Token) → AreLaidOut source place found → length found ≤ length source - place
+few_tokens : (source : List ℕ) (place : ℕ) (found : List Token) → AreLaidOut source place found
+    → length found ≤ length source - place
 few_tokens source place _ (end g) = omega arith
 few_tokens source place _ (next {token} {tokens = found} a b c g k l) = let h = few_tokens source token.span.stop found l in omega arith
 
@@ -44,16 +45,20 @@ few_tokens source place _ (next {token} {tokens = found} a b c g k l) = let h = 
 abbrev Sound : Word → Type 0
 Sound word = IsSound word.0 word.1
 
-token_sound : (source : List ℕ) (token : Token) → IsTokenOf source token → Sound (word_of source token)
+token_sound : (source : List ℕ) (token : Token) → IsTokenOf source token
+    → Sound (word_of source token)
 token_sound source token t = record { kind = token.kind; is = refl; form = t.kind; sound = t.sound }
 
-words_sound : (source : List ℕ) (found : List Token) → All (IsTokenOf source) found → All Sound (words_of source found)
+words_sound : (source : List ℕ) (found : List Token) → All (IsTokenOf source) found
+    → All Sound (words_of source found)
 words_sound source found h = All-map Sound (word_of source) found (All-weaker (IsTokenOf source) (λ token. Sound (word_of source token)) (token_sound source) found h)
 
 -- what nf_lex says of tokens
 pub record IsWrittenToken : Type 0 where
-  pub identifier : (word : List ℕ) → (kind_of word ≡ Some tokens.Ident) ↔ IsTrue (is_identifier word)
-  pub text : (word : List ℕ) (line : ℕ) → kind_of word ≡ Some tokens.Text → fault_of tokens.Text word line ≡ None → IsWrittenText (body_of word)
+  pub identifier : (word : List ℕ)
+      → (kind_of word ≡ Some tokens.Ident) ↔ IsTrue (is_identifier word)
+  pub text : (word : List ℕ) (line : ℕ) → kind_of word ≡ Some tokens.Text
+      → fault_of tokens.Text word line ≡ None → IsWrittenText (body_of word)
 
 small : (n : ℕ) → n < 2 ^ 63 → pos n ≤ℤ int_greatest
 small n h = omega (arith, le→leb)
@@ -66,12 +71,14 @@ word_of_expression w = record {
 }
 
 module _ (parts : IsByParts) (w : IsWrittenToken) (source : List ℕ) (found : List Token) (each : All (IsTokenOf source) found) where
-  pub given_written : (modules : List Module) (t : State) → outcome_of source found ≡ Ok (modules, t) → All IsWritten (rules_in modules)
+  pub given_written : (modules : List Module) (t : State)
+      → outcome_of source found ≡ Ok (modules, t) → All IsWritten (rules_in modules)
   unfolding outcome_of limited
   given_written modules t e = file_written parts Sound (word_of_expression w) MOST_OPEN (state MOST_OPERATORS (words_of source found)) t modules e (words_sound source found each)
 
 module _ (source : List ℕ) (found : List Token) (laid : AreLaidOut source 0 found) where
-  pub given_few : (modules : List Module) (t : State) → outcome_of source found ≡ Ok (modules, t) → size_of modules ≤ length source
+  pub given_few : (modules : List Module) (t : State) → outcome_of source found ≡ Ok (modules, t)
+      → size_of modules ≤ length source
   unfolding outcome_of limited
   given_few modules t e =
       let r = file_size MOST_OPEN (state MOST_OPERATORS (words_of source found)) t modules e in

@@ -33,11 +33,14 @@ use Rattle.nf_lemmas.proofs.DigitLemmas.{digits_model}
 not_true : not true ≡ true → ⊥
 not_true e = cc
 
-not_chosen : (k j : Sym) (b : Bool) (rest : Option Sym) → not (sameb the_type j k) ≡ true → (unwrap_or rest kind.Other ≡ k → ⊥) → unwrap_or (cond b (Some j) rest) kind.Other ≡ k → ⊥
+not_chosen : (k j : Sym) (b : Bool) (rest : Option Sym) → not (sameb the_type j k) ≡ true
+    → (unwrap_or rest kind.Other ≡ k → ⊥) → unwrap_or (cond b (Some j) rest) kind.Other ≡ k → ⊥
 not_chosen k j true rest n o e = not_true (subst (λ b. not b ≡ true) (ap (λ i. sameb the_type i k) e ∙ true_same the_type k k refl) n)
 not_chosen k j false rest n o e = o e
 
-not_in : (k : Sym) → (k ≡ kind.Other → ⊥) → (table : List (List ℕ × Sym)) → list_all (λ (entry : List ℕ × Sym). not (sameb the_type entry.1 k)) table ≡ true → (bytes : List ℕ) → sym_in table bytes ≡ k → ⊥
+not_in : (k : Sym) → (k ≡ kind.Other → ⊥) → (table : List (List ℕ × Sym))
+    → list_all (λ (entry : List ℕ × Sym). not (sameb the_type entry.1 k)) table ≡ true
+    → (bytes : List ℕ) → sym_in table bytes ≡ k → ⊥
 not_in k o [] h bytes e = o (sym e)
 not_in k o (entry ∷ table) h bytes e =
     let parts = and_parts (not (sameb the_type entry.1 k)) (list_all (λ (entry : List ℕ × Sym). not (sameb the_type entry.1 k)) table) h in
@@ -82,11 +85,14 @@ number_small w s = ltb-true (digits_value 10 w) (2 ^ 63) (passed_where_none (ltb
 pub number_utf8 : (w : List ℕ) → IsSound kind.Number w → IsUtf8 w
 number_utf8 w s = kinds.number_utf8 w (number_is w s)
 
-ok_iff : {E : Type 0} (w : List ℕ) (r : Result ℤ E) → 0 < length w → digits_value 10 w < 2 ^ 63 → OkIff r ((0 < length w) × (digits_value 10 w < 2 ^ 63)) (pos (digits_value 10 w)) → r ≡ Ok (pos (digits_value 10 w))
+ok_iff : {E : Type 0} (w : List ℕ) (r : Result ℤ E) → 0 < length w → digits_value 10 w < 2 ^ 63
+    → OkIff r ((0 < length w) × (digits_value 10 w < 2 ^ 63)) (pos (digits_value 10 w))
+    → r ≡ Ok (pos (digits_value 10 w))
 ok_iff w (Ok n) l m p = ap Ok p.1
 ok_iff w (Err e) l m p = absurd (p (l, m))
 
-pub number_read : {E : Type 0} (w : List ℕ) (r : Result ℤ E) → IsSound kind.Number w → ParsesSigned w64 10 w r → r ≡ Ok (pos (digits_value 10 w))
+pub number_read : {E : Type 0} (w : List ℕ) (r : Result ℤ E) → IsSound kind.Number w
+    → ParsesSigned w64 10 w r → r ≡ Ok (pos (digits_value 10 w))
 number_read w r s p =
     let d = number_digits w (number_is w s) in
     ok_iff w r d.0 (number_small w s) (parse_signed_digits digits_model w64 w r p d.1)
@@ -94,7 +100,8 @@ number_read w r s p =
 ok_value : {E : Type 0} (a b : ℤ) (r : Result ℤ E) → r ≡ Ok a → r ≡ Ok b → a ≡ b
 ok_value a b r p q = cc
 
-pub number_shown : {E : Type 0} (w : List ℕ) (r : Result ℤ E) (n : ℤ) → IsSound kind.Number w → ParsesSigned w64 10 w r → r ≡ Ok n → to_z w64 (of_z w64 n) ≡ pos (digits_value 10 w)
+pub number_shown : {E : Type 0} (w : List ℕ) (r : Result ℤ E) (n : ℤ) → IsSound kind.Number w
+    → ParsesSigned w64 10 w r → r ≡ Ok n → to_z w64 (of_z w64 n) ≡ pos (digits_value 10 w)
 number_shown w r n s p e =
     subst (λ z. to_z w64 (of_z w64 z) ≡ pos (digits_value 10 w)) (ok_value (pos (digits_value 10 w)) n r (number_read w r s p) e) (to_z_pos w64 (number_small w s))
 

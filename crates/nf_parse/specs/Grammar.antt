@@ -72,15 +72,18 @@ with_operand l operand = and_then (operator l) (λ o. and_then operand (λ right
 
 -- operand { operator operand }
 abbrev pub chain : Level → Production Expr → Production Expr
-chain l operand = and_then operand (λ left. and_then (repeated (with_operand l operand)) (λ rest. done (joined left rest)))
+chain l operand = and_then operand (λ left.
+    and_then (repeated (with_operand l operand)) (λ rest. done (joined left rest)))
 
 -- operand [ operator operand ]
 abbrev pub single : Level → Production Expr → Production Expr
-single l operand = and_then operand (λ left. and_then (optional (with_operand l operand)) (λ rest. done (joined left (option_to_list rest))))
+single l operand = and_then operand (λ left.
+    and_then (optional (with_operand l operand)) (λ rest. done (joined left (option_to_list rest))))
 
 -- what is read under a label: IDENT | "begin" | "end"
 abbrev pub member : List ℕ → Production Expr
-member label = either (and_then (word Ident) (λ key. done (e.Key label key))) (either (behind Begin (done (e.Start label))) (behind End (done (e.Stop label))))
+member label = either (and_then (word Ident) (λ key. done (e.Key label key)))
+    (either (behind Begin (done (e.Start label))) (behind End (done (e.Stop label))))
 
 -- IDENT "." ( IDENT | "begin" | "end" )
 abbrev pub read : Production Expr
@@ -88,8 +91,12 @@ read = and_then (word Ident) (λ label. behind Dot (member label))
 
 -- prim = NUMBER | TEXT | "true" | "false" | IDENT "." ( IDENT | "begin" | "end" ) | "(" expr ")", where what is given stands for "(" expr ")"
 abbrev pub primary : Production Expr → Production Expr
-primary paren = either (and_then (word Number) (λ bytes. done (e.Int (pos (digits_value 10 bytes))))) (either (and_then (word Text) (λ bytes. done (e.Text (body_of bytes))))
-    (either (behind True (done (e.Bool true))) (either (behind False (done (e.Bool false))) (either read paren))))
+primary paren =
+    either (and_then (word Number) (λ bytes. done (e.Int (pos (digits_value 10 bytes)))))
+    (either (and_then (word Text) (λ bytes. done (e.Text (body_of bytes))))
+    (either (behind True (done (e.Bool true)))
+    (either (behind False (done (e.Bool false)))
+    (either read paren))))
 
 -- a sign of an operand
 unfoldable pub sign_of : Sym → Option (Expr → Expr)
@@ -104,7 +111,8 @@ signed (sign ∷ signs) x = sign (signed signs x)
 
 -- unary = ( "-" | "!" ) unary | prim: signs, which are counted as operators, and then an operand without any
 abbrev pub unary : Production Expr → Production Expr
-unary prim = and_then (repeated (counted (λ (word : Word). sign_of word.0))) (λ signs. and_then prim (λ x. done (signed signs x)))
+unary prim = and_then (repeated (counted (λ (word : Word). sign_of word.0)))
+    (λ signs. and_then prim (λ x. done (signed signs x)))
 
 -- what is given stands for "(" expr ")"
 module _ (paren : Production Expr) where
@@ -159,7 +167,8 @@ atom_of word (Some name) = record { label = word; name = name }
 
 -- atom = IDENT [ ":" IDENT ]
 abbrev pub atom : Production Atom
-atom = and_then (word Ident) (λ label. and_then (optional (behind Colon (word Ident))) (λ name. done (atom_of label name)))
+atom = and_then (word Ident) (λ label.
+    and_then (optional (behind Colon (word Ident))) (λ name. done (atom_of label name)))
 
 -- a side of a body is an atom
 abbrev pub side : Production Atom
@@ -168,8 +177,10 @@ side = atom
 -- body = atom | atom op atom | atom "unless" xop atom
 abbrev pub rule_body : Production Body
 rule_body = and_then side (λ first. either (done (body.One first)) (either
-    (and_then (token (λ (word : Word). op_of word.0)) (λ o. and_then side (λ second. done (body.Pair first o second))))
-    (behind Unless (and_then (token (λ (word : Word). xop_of word.0)) (λ x. and_then side (λ second. done (body.Unless first x second)))))))
+    (and_then (token (λ (word : Word). op_of word.0)) (λ o.
+    and_then side (λ second. done (body.Pair first o second))))
+    (behind Unless (and_then (token (λ (word : Word). xop_of word.0)) (λ x.
+    and_then side (λ second. done (body.Unless first x second)))))))
 
 -- an item of a file: a rule outside modules, or a module
 pub data Item : Type 0 where
@@ -184,26 +195,40 @@ module _ (depth : ℕ) where
 
   -- entry = IDENT "->" expr
   abbrev pub entry : Production Entry
-  entry = and_then (word Ident) (λ key. and_then (clause Arrow) (λ value. done (record { key = key; value = value })))
+  entry = and_then (word Ident) (λ key. and_then (clause Arrow) (λ value.
+      done (record { key = key; value = value })))
 
   -- "map" "{" [ entry { "," entry } ] "}"
   abbrev pub entries : Production (List Entry)
-  entries = behind Map (and_then (enclosed OpenBrace (optional (separated (of_kind Comma) entry)) CloseBrace) (λ found. done (unwrap_or found [])))
+  entries = behind Map (and_then
+      (enclosed OpenBrace (optional (separated (of_kind Comma) entry)) CloseBrace)
+      (λ found. done (unwrap_or found [])))
 
   -- rule = IDENT ":-" body [ "where" expr ] [ "map" .. ] [ "begin" expr ] [ "end" expr ]; no map is an empty one
   abbrev pub rule : Production Rule
-  rule = and_then (word Ident) (λ head. behind Defines (and_then rule_body (λ body. and_then (optional (clause Where)) (λ filter. and_then (optional entries) (λ found.
+  rule = and_then (word Ident) (λ head. behind Defines (and_then rule_body (λ body.
+      and_then (optional (clause Where)) (λ filter. and_then (optional entries) (λ found.
       and_then (optional (clause Begin)) (λ start. and_then (optional (clause End)) (λ stop.
-      done (record { head = head; body = body; filter = filter; entries = unwrap_or found []; start = start; stop = stop }))))))))
+      done (record {
+        head = head;
+        body = body;
+        filter = filter;
+        entries = unwrap_or found [];
+        start = start;
+        stop = stop;
+      }))))))))
 
   -- "import" IDENT { "," IDENT } ";"
   abbrev pub imports : Production (List (List ℕ))
-  imports = behind Import (and_then (separated (of_kind Comma) (word Ident)) (λ names. behind Semicolon (done names)))
+  imports = behind Import (and_then (separated (of_kind Comma) (word Ident)) (λ names.
+      behind Semicolon (done names)))
 
   -- module = "module" IDENT "{" [ "import" .. ] { rule } "}"
   abbrev pub named_module : Production Module
-  named_module = behind sym.Module (and_then (word Ident) (λ name. enclosed OpenBrace (and_then (optional imports) (λ names. and_then (repeated rule) (λ rules.
-      done (record { name = Some name; imports = unwrap_or names []; rules = rules })))) CloseBrace))
+  named_module = behind sym.Module (and_then (word Ident) (λ name. enclosed OpenBrace
+      (and_then (optional imports) (λ names. and_then (repeated rule) (λ rules.
+      done (record { name = Some name; imports = unwrap_or names []; rules = rules }))))
+      CloseBrace))
 
   -- rule | module
   abbrev pub item : Production Item
@@ -216,7 +241,10 @@ unnamed rules = record { name = None; imports = []; rules = rules }
 -- a rule in front of modules: in the first one where that has no name, else in a module without name of its own
 abbrev pub in_front : Rule → List Module → List Module
 in_front rule [] = unnamed (rule ∷ []) ∷ []
-in_front rule (first ∷ modules) = elim first.name [ None ↦ unnamed (rule ∷ first.rules) ∷ modules | Some name ↦ unnamed (rule ∷ []) ∷ first ∷ modules ]
+in_front rule (first ∷ modules) = elim first.name [
+  | None ↦ unnamed (rule ∷ first.rules) ∷ modules
+  | Some name ↦ unnamed (rule ∷ []) ∷ first ∷ modules
+]
 
 -- the modules of a file's items: each longest run of rules outside modules is a module without name
 unfoldable pub modules_of : List Item → List Module

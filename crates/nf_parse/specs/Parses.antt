@@ -25,7 +25,8 @@ place_of source (Some token) = token.span.start
 
 -- the line of the place where so many tokens are left
 abbrev pub line_left : List ℕ → List Token → ℕ → ℕ
-line_left source tokens left = line_at source (place_of source (slice_get tokens (length tokens - left)))
+line_left source tokens left =
+    line_at source (place_of source (slice_get tokens (length tokens - left)))
 
 -- a fault with the line of its token
 abbrev pub fault_at : List ℕ → List Token → Fault → ParseFault
@@ -43,5 +44,6 @@ pub record IsRefused (source : List ℕ) (found : ParseFault) : Type 0 where
 -- the modules that a source spells; its first lexical fault, where it has no tokens; or the fault at the token where its tokens stop being a file
 pub data Parses (source : List ℕ) : Answer → Type 0 where
   modules : {found : List Module} → Spells source found → Parses source (Ok found)
-  lexical : {first : LexFault} → Divides source 0 (Err first) → Parses source (Err (fault.Lex first))
+  lexical : {first : LexFault} → Divides source 0 (Err first)
+      → Parses source (Err (fault.Lex first))
   refused : {found : ParseFault} → IsRefused source found → Parses source (Err found)

@@ -14,19 +14,25 @@ use Rattle.nf_parse.specs.declared.symbol.Sym.TheVariants as sym
 -- what the keywords of nf_core are to the grammar
 abbrev pub keywords : List (List ℕ × Sym)
 keywords =
-    (codes "module", sym.Module) ∷ (codes "import", sym.Import) ∷ (codes "where", sym.Where) ∷ (codes "map", sym.Map) ∷ (codes "begin", sym.Begin) ∷ (codes "end", sym.End)
-    ∷ (codes "unless", sym.Unless) ∷ (codes "before", sym.Before) ∷ (codes "meet", sym.Meet) ∷ (codes "during", sym.During) ∷ (codes "coincide", sym.Coincide)
-    ∷ (codes "start", sym.Start) ∷ (codes "finish", sym.Finish) ∷ (codes "overlap", sym.Overlap) ∷ (codes "slice", sym.Slice)
-    ∷ (codes "after", sym.After) ∷ (codes "follow", sym.Follow) ∷ (codes "contain", sym.Contain) ∷ (codes "true", sym.True) ∷ (codes "false", sym.False) ∷ []
+    (codes "module", sym.Module) ∷ (codes "import", sym.Import) ∷ (codes "where", sym.Where)
+    ∷ (codes "map", sym.Map) ∷ (codes "begin", sym.Begin) ∷ (codes "end", sym.End)
+    ∷ (codes "unless", sym.Unless) ∷ (codes "before", sym.Before) ∷ (codes "meet", sym.Meet)
+    ∷ (codes "during", sym.During) ∷ (codes "coincide", sym.Coincide)
+    ∷ (codes "start", sym.Start) ∷ (codes "finish", sym.Finish) ∷ (codes "overlap", sym.Overlap)
+    ∷ (codes "slice", sym.Slice) ∷ (codes "after", sym.After) ∷ (codes "follow", sym.Follow)
+    ∷ (codes "contain", sym.Contain) ∷ (codes "true", sym.True) ∷ (codes "false", sym.False) ∷ []
 
 -- what the marks of nf_lex are to the grammar
 abbrev pub marks : List (List ℕ × Sym)
 marks =
-    (codes ":-", sym.Defines) ∷ (codes "->", sym.Arrow) ∷ (codes "<=", sym.LessEqual) ∷ (codes ">=", sym.GreaterEqual) ∷ (codes "!=", sym.NotEqual)
-    ∷ (codes "=", sym.Equal) ∷ (codes "<", sym.Less) ∷ (codes ">", sym.Greater) ∷ (codes "!", sym.Bang) ∷ (codes "&", sym.And) ∷ (codes "|", sym.Or)
-    ∷ (codes "+", sym.Plus) ∷ (codes "-", sym.Minus) ∷ (codes "*", sym.Star) ∷ (codes "/", sym.Slash) ∷ (codes "%", sym.Percent)
-    ∷ (codes "(", sym.Open) ∷ (codes ")", sym.Close) ∷ (codes "{", sym.OpenBrace) ∷ (codes "}", sym.CloseBrace)
-    ∷ (codes ",", sym.Comma) ∷ (codes ";", sym.Semicolon) ∷ (codes ".", sym.Dot) ∷ (codes ":", sym.Colon) ∷ []
+    (codes ":-", sym.Defines) ∷ (codes "->", sym.Arrow) ∷ (codes "<=", sym.LessEqual)
+    ∷ (codes ">=", sym.GreaterEqual) ∷ (codes "!=", sym.NotEqual) ∷ (codes "=", sym.Equal)
+    ∷ (codes "<", sym.Less) ∷ (codes ">", sym.Greater) ∷ (codes "!", sym.Bang)
+    ∷ (codes "&", sym.And) ∷ (codes "|", sym.Or) ∷ (codes "+", sym.Plus)
+    ∷ (codes "-", sym.Minus) ∷ (codes "*", sym.Star) ∷ (codes "/", sym.Slash)
+    ∷ (codes "%", sym.Percent) ∷ (codes "(", sym.Open) ∷ (codes ")", sym.Close)
+    ∷ (codes "{", sym.OpenBrace) ∷ (codes "}", sym.CloseBrace) ∷ (codes ",", sym.Comma)
+    ∷ (codes ";", sym.Semicolon) ∷ (codes ".", sym.Dot) ∷ (codes ":", sym.Colon) ∷ []
 
 -- the words that a table has
 abbrev pub words_in : List (List ℕ × Sym) → List (List ℕ)

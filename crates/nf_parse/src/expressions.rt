@@ -110,7 +110,7 @@ fn unary(alloc: Global, depth: usize, reader: &mut Reader<'_>) -> Result<Expr, H
 
 /// An operand without operators, by its first word.
 #[cycle(parser)]
-#[tactic(auto, using(crate::proofs::KindLemmas::number_primary, crate::proofs::KindLemmas::text_primary, crate::proofs::KindLemmas::true_primary, crate::proofs::KindLemmas::false_primary, crate::proofs::KindLemmas::read_primary, crate::proofs::KindLemmas::paren_primary))]
+#[tactic(auto, using(crate::proofs::KindLemmas::primary_words))]
 fn primary(alloc: Global, depth: usize, reader: &mut Reader<'_>) -> Result<Expr, Halt>
     ensures reads { Reads (spec.primary (spec.paren depth) reader.old) result reader.new }
     ensures within { IsWithin reader.old reader.new }
@@ -150,7 +150,7 @@ fn read(alloc: Global, reader: &mut Reader<'_>) -> Result<Expr, Halt>
 }
 
 /// What is read under a label: a key, the begin or the end.
-#[tactic(auto, using(crate::proofs::KindLemmas::key_member, crate::proofs::KindLemmas::start_member, crate::proofs::KindLemmas::stop_member))]
+#[tactic(auto, using(crate::proofs::KindLemmas::member_words))]
 fn member(alloc: Global, label: Text, reader: &mut Reader<'_>) -> Result<Expr, Halt>
     ensures reads { Reads (spec.member label reader.old) result reader.new }
     ensures within { IsWithin reader.old reader.new }
@@ -173,7 +173,7 @@ fn member(alloc: Global, label: Text, reader: &mut Reader<'_>) -> Result<Expr, H
 
 /// An expression between parentheses, of which at most so many are open at once.
 #[cycle(parser)]
-#[tactic(auto, using(crate::proofs::StepLemmas::paren_zero, crate::proofs::StepLemmas::paren_some, crate::proofs::StepLemmas::token_refused))]
+#[tactic(auto, using(crate::proofs::StepLemmas::paren_steps))]
 fn paren(alloc: Global, depth: usize, reader: &mut Reader<'_>) -> Result<Expr, Halt>
     ensures reads { Reads (spec.paren depth reader.old) result reader.new }
     ensures within { IsWithin reader.old reader.new }

@@ -29,16 +29,15 @@ pub(crate) struct Reader<'a> {
 }
 
 impl<'a> Model for Reader<'a> {
-    ghost use Rattle.std.specs.Prelude.{◌≡◌, All};
-    ghost use Rattle.nf_lex.specs.Layout.{IsTokenOf};
-    ghost use Rattle.nf_grammar.specs.State.{state, next_of};
-    ghost use Rattle.nf_parse.specs.State.{State, words_of, kind_of_next};
+    ghost use Rattle.nf_grammar.specs.State.{state};
+    ghost use Rattle.nf_parse.specs.State.{State, words_of};
+    ghost use Rattle.nf_parse.specs.inner.Parsers.{StandsBefore};
 
     ghost Value = { State };
 
     ghost view = { λ r. state r.operators (words_of r.source.now r.tokens.now) };
 
-    ghost invariant = { λ r. All (IsTokenOf r.source.now) r.tokens.now × (r.ahead ≡ kind_of_next (next_of (words_of r.source.now r.tokens.now))) };
+    ghost invariant = { λ r. StandsBefore r.source.now r.tokens.now r.ahead };
 }
 
 impl<'a> Reader<'a> {
@@ -119,7 +118,7 @@ impl<'a> Reader<'a> {
     }
 
     /// The bytes of the next word, which has to be of this kind. Otherwise nothing is read.
-    #[tactic(auto, using(crate::proofs::StepLemmas::token_read, crate::proofs::StepLemmas::token_refused))]
+    #[tactic(auto, using(crate::proofs::StepLemmas::token_steps))]
     pub(crate) fn take(&mut self, kind: Sym) -> Result<&'a [u8], Halt>
         ensures reads { IfOk result (λ bytes. spec.token kind self.old ≡ Ok (bytes.now, self.new)) }
         ensures stops { IfErr result (Stops (spec.token kind self.old)) }
@@ -135,7 +134,7 @@ impl<'a> Reader<'a> {
     }
 
     /// Goes past the next word, which has to be of this kind. Otherwise nothing is read.
-    #[tactic(auto, using(crate::proofs::StepLemmas::token_read, crate::proofs::StepLemmas::token_refused))]
+    #[tactic(auto, using(crate::proofs::StepLemmas::token_steps))]
     pub(crate) fn skip(&mut self, kind: Sym) -> Result<(), Halt>
         ensures reads { OnOk result (spec.GoesPast (spec.token kind) self.old self.new) }
         ensures stops { IfErr result (Stops (spec.token kind self.old)) }

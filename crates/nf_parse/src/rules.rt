@@ -62,7 +62,7 @@ fn op(reader: &mut Reader<'_>) -> Option<Op>
 }
 
 /// The exclusive operator that comes next.
-#[tactic(auto, using(crate::proofs::StepLemmas::some_word, crate::proofs::PartStepLemmas::table_read, crate::proofs::PartStepLemmas::table_refused))]
+#[tactic(auto, using(crate::proofs::PartStepLemmas::table_steps))]
 fn xop(reader: &mut Reader<'_>) -> Result<Xop, Halt>
     ensures reads { Reads (parser.token spec.xop_of_word reader.old) result reader.new }
     ensures within { IsWithin reader.old reader.new }
@@ -121,7 +121,7 @@ fn exclusive(alloc: Global, first: Atom, reader: &mut Reader<'_>) -> Result<Body
 }
 
 /// What stands behind the first atom of a body.
-#[tactic(auto, using(crate::proofs::PartStepLemmas::exclusive_read, crate::proofs::PartStepLemmas::alone_read))]
+#[tactic(auto, using(crate::proofs::PartStepLemmas::body_steps))]
 fn body_behind(alloc: Global, first: Atom, reader: &mut Reader<'_>) -> Result<Body, Halt>
     ensures reads { Reads (spec.body_behind first reader.old) result reader.new }
     ensures within { IsWithin reader.old reader.new }
@@ -173,7 +173,7 @@ fn rule(alloc: Global, reader: &mut Reader<'_>) -> Result<Rule, Halt>
 }
 
 /// The rules here, as long as one follows another.
-#[tactic(auto, using(crate::proofs::PartListLemmas::list_start, crate::proofs::PartListLemmas::list_more, crate::proofs::PartListLemmas::list_stops, crate::proofs::PartListLemmas::list_ends), unfolding(crate::specs::inner::RuleReading::rules))]
+#[tactic(auto, using(crate::proofs::PartListLemmas::list_steps), unfolding(crate::specs::inner::RuleReading::rules))]
 pub(crate) fn rules(alloc: Global, reader: &mut Reader<'_>) -> Result<RuleList, Halt>
     requires { reader.old.room ≤ MOST_OPERATORS }
     ensures reads { Reads (spec.rules spec.limited reader.old) result reader.new }

@@ -33,9 +33,9 @@ use Rattle.nf_print.proofs.ReadWordLemmas.{AreRead, Reads, reads_token, is_stop,
 use Rattle.nf_lemmas.proofs.ListLemmas.{has_first}
 use Rattle.nf_lemmas.proofs.DigitLemmas.{digits_model}
 
--- the text of a binary operator in front of more
-five_parts : (x m y rest : List ℕ) → (x ++ codes " " ++ m ++ codes " " ++ y) ++ rest ≡ x ++ 32 ∷ (m ++ 32 ∷ (y ++ rest))
-five_parts x m y rest = simp append_assoc refl
+-- the text of an operator between its sides in front of more
+pub operator_parts : (x m y rest : List ℕ) → (x ++ codes " " ++ m ++ codes " " ++ y) ++ rest ≡ x ++ 32 ∷ (m ++ 32 ∷ (y ++ rest))
+operator_parts x m y rest = simp append_assoc refl
 
 decimal_number : (n : ℕ) → n < 2 ^ 63 → is_number (decimal n) ≡ true
 decimal_number n h =
@@ -213,7 +213,7 @@ module _ (laws : AreRead) (plain : (t : List ℕ) → (is_plain t ≡ true) ↔ 
       let y = enclosed (right_in_parens op b) (expression_text b) in
       let right = between (right_in_parens op b) (expression_words b) ws in
       subst (λ bytes. Reads bytes (expression_words (Bin op a b) ws))
-      (sym (five_parts x (mark_of op) y rest))
+      (sym (operator_parts x (mark_of op) y rest))
       (enclosed_read (left_in_parens op a) (expression_text a) (expression_words a) (expression_read a w.0) (32 ∷ (mark_of op ++ 32 ∷ (y ++ rest))) (mark (mark_of op) ∷ right) refl
       (reads_blank laws 32 (mark_of op ++ 32 ∷ (y ++ rest)) (mark (mark_of op) ∷ right) refl
       (mark_read op (y ++ rest) right (enclosed_read (right_in_parens op b) (expression_text b) (expression_words b) (expression_read b w.1) rest ws s r))))

@@ -26,12 +26,9 @@ use Rattle.nf_core.specs.Spelling.{word_of_op, word_of_xop}
 use Rattle.nf_print.specs.Canonical.{expression_text, atom_text, body_text, clause_text, entry_text, others_text, map_text, canonical}
 use Rattle.nf_print.proofs.WordFrontLemmas.{name, keyword, mark, expression_words, atom_at, atom_words, body_words, clause_words, entry_words, other_words, map_words, rule_words}
 use Rattle.nf_print.proofs.ReadWordLemmas.{AreRead, Reads, is_stop, stop_inner, reads_end, reads_blank, reads_name, reads_keyword, reads_long, reads_short}
-use Rattle.nf_print.proofs.ReadExpressionLemmas.{IsReadAs, expression_read}
+use Rattle.nf_print.proofs.ReadExpressionLemmas.{operator_parts, IsReadAs, expression_read}
 
 -- parts in front of more
-operator_parts : (a w b rest : List ℕ) → (a ++ codes " " ++ w ++ codes " " ++ b) ++ rest ≡ a ++ 32 ∷ (w ++ 32 ∷ (b ++ rest))
-operator_parts a w b rest = simp append_assoc refl
-
 unless_parts : (a w b rest : List ℕ) → (a ++ codes " unless " ++ w ++ codes " " ++ b) ++ rest ≡ a ++ 32 ∷ (codes "unless" ++ 32 ∷ (w ++ 32 ∷ (b ++ rest)))
 unless_parts a w b rest = simp append_assoc refl
 

@@ -4,6 +4,9 @@ use Rattle.nf_grammar.specs.State.{State, state, next, next_of}
 use Rattle.nf_grammar.specs.declared.fault.Fault.TheVariants as fault
 use Rattle.nf_grammar.specs.inner.Parsers.{Outcome, Parser, place_of, place, refuse, too_deep, bind, in_table, tail_of, behind, given, use_up, counting, in_list, restored, repeated_from}
 use Rattle.nf_grammar.specs.inner.Parsers as parser
+use Rattle.nf_grammar.proofs.Public.OutcomeLemmas.{bind_place, choose_place, list_place, restored_place}
+use Rattle.nf_grammar.proofs.Public.ReaderLemmas.{forward}
+use Rattle.nf_grammar.proofs.Public.TokenReaderLemmas.{token_reader, counted_reader}
 
 -- the state in which so many counted words more may stand
 abbrev pub plus : {W : Type 0} → ℕ → State W → State W
@@ -24,27 +27,19 @@ pub done_larger : {W A : Type 0} (x : A) → IsLarger {W = W} (parser.done x) (p
 unfolding IsLater
 done_larger x = record { later = λ m s h. refl; forward = λ s. omega arith }
 
-given_forward : {W A : Type 0} (n : ℕ) (words : List W) (o : Option A) → place (given o (state n words)) ≤ length words
-given_forward n words None = omega arith
-given_forward n [] (Some x) = omega arith
-given_forward n (w ∷ ws) (Some x) = omega arith
-
-pub token_larger : {W A : Type 0} (table : W → Option A) → IsLarger (parser.token table) (parser.token table)
+pub token_larger : {W A : Type 0} (table : W → Option A)
+    → IsLarger (parser.token table) (parser.token table)
 unfolding parser.token IsLater
-token_larger {W} {A} table = record { later = λ m s h. go m s (in_table table (next s)); forward = λ s. given_forward s.room s.words (in_table table (next s)) }
+token_larger {W} {A} table = record { later = λ m s h. go m s (in_table table (next s)); forward = λ s. forward (token_reader table) s }
   where
     go : (m : ℕ) (s : State W) (o : Option A) → IsLater m (given o s) (given o (plus m s))
     go m s None = refl
     go m s (Some x) = refl
 
-counting_forward : {W A : Type 0} (n : ℕ) (words : List W) (o : Option A) → place (counting o (state n words)) ≤ length words
-counting_forward n words None = omega arith
-counting_forward zero words (Some x) = omega arith
-counting_forward (suc n) [] (Some x) = omega arith
-counting_forward (suc n) (w ∷ ws) (Some x) = omega arith
-
 -- where a counted word may not stand, it may with more room
-counting_later : {W A : Type 0} (table : W → Option A) (m n k : ℕ) (words : List W) (o : Option A) → 0 < m → k ≡ n + m → in_table table (next_of words) ≡ o → IsLater m (counting o (state n words)) (counting o (state k words))
+counting_later : {W A : Type 0} (table : W → Option A) (m n k : ℕ) (words : List W) (o : Option A)
+    → 0 < m → k ≡ n + m → in_table table (next_of words) ≡ o
+    → IsLater m (counting o (state n words)) (counting o (state k words))
 unfolding IsLater
 counting_later table m n k words None h i e = refl
 counting_later table m n k [] (Some x) h i e = absurd (cc)
@@ -53,60 +48,55 @@ counting_later table m zero (suc k) (w ∷ ws) (Some x) h i e = omega arith
 counting_later table m (suc n) zero (w ∷ ws) (Some x) h i e = absurd (omega (arith, i))
 counting_later table m (suc n) (suc k) (w ∷ ws) (Some x) h i e = let j : k ≡ n + m = omega (arith, i) in rw j refl
 
-pub counted_larger : {W A : Type 0} (table : W → Option A) → IsLarger (parser.counted table) (parser.counted table)
+pub counted_larger : {W A : Type 0} (table : W → Option A)
+    → IsLarger (parser.counted table) (parser.counted table)
 unfolding parser.counted
 counted_larger table = record {
   later = λ m s h. counting_later table m s.room (s.room + m) s.words (in_table table (next s)) h refl refl;
-  forward = λ s. counting_forward s.room s.words (in_table table (next s));
+  forward = λ s. forward (counted_reader table) s;
 }
 
 -- one part after another
 module _ {W A B : Type 0} {p q : Parser W A} {k l : A → Parser W B} (part : IsLarger p q) (rest : (x : A) → IsLarger (k x) (l x)) where
-  bind_place : (o : Outcome W A) → place (bind o l) ≤ place o
-  bind_place (Ok read) = (rest read.0).forward read.1
-  bind_place (Err f) = omega arith
+  rest_place : (o : Outcome W A) → place (bind o l) ≤ place o
+  rest_place o = bind_place o l (λ x. (rest x).forward)
 
   bind_later : (m : ℕ) (o r : Outcome W A) → 0 < m → IsLater m o r → IsLater m (bind o k) (bind r l)
   unfolding IsLater
   bind_later m (Ok read) r b h = rw h ((rest read.0).later m read.1 b)
   bind_later m (Err (fault.Grammar n)) r b h = rw h refl
-  bind_later m (Err (fault.TooDeep n)) r b h = omega (arith, h, bind_place r)
+  bind_later m (Err (fault.TooDeep n)) r b h = omega (arith, h, rest_place r)
 
   pub then_larger : IsLarger (parser.and_then p k) (parser.and_then q l)
-  then_larger = record { later = λ m s b. bind_later m (p s) (q (plus m s)) b (part.later m s b); forward = λ s. omega (arith, bind_place (q s), part.forward s) }
+  then_larger = record { later = λ m s b. bind_later m (p s) (q (plus m s)) b (part.later m s b); forward = λ s. omega (arith, rest_place (q s), part.forward s) }
 
 -- one part or another
 module _ {W A : Type 0} {p q p' q' : Parser W A} (test : Option W → Bool) (yes : IsLarger p p') (no : IsLarger q q') where
   pub choose_larger : IsLarger (parser.choose test p q) (parser.choose test p' q')
   unfolding parser.choose
-  choose_larger = record { later = λ m s h. go m s h (test (next s)); forward = λ s. fore s (test (next s)) }
+  choose_larger = record { later = λ m s h. go m s h (test (next s)); forward = λ s. choose_place (test (next s)) (p' s) (q' s) (yes.forward s) (no.forward s) }
     where
-      go : (m : ℕ) (s : State W) → 0 < m → (b : Bool) → IsLater m (cond b (p s) (q s)) (cond b (p' (plus m s)) (q' (plus m s)))
+      go : (m : ℕ) (s : State W) → 0 < m → (b : Bool)
+          → IsLater m (cond b (p s) (q s)) (cond b (p' (plus m s)) (q' (plus m s)))
       go m s h true = yes.later m s h
       go m s h false = no.later m s h
 
-      fore : (s : State W) (b : Bool) → place (cond b (p' s) (q' s)) ≤ length s.words
-      fore s true = yes.forward s
-      fore s false = no.forward s
-
 -- { part }
-list_later : {W A : Type 0} (x : A) (m : ℕ) (o r : Outcome W (List A)) → IsLater m o r → IsLater m (in_list x o) (in_list x r)
+list_later : {W A : Type 0} (x : A) (m : ℕ) (o r : Outcome W (List A)) → IsLater m o r
+    → IsLater m (in_list x o) (in_list x r)
 unfolding IsLater
 list_later x m (Ok read) r h = rw h refl
 list_later x m (Err (fault.Grammar n)) r h = rw h refl
 list_later x m (Err (fault.TooDeep n)) (Ok read) h = h
 list_later x m (Err (fault.TooDeep n)) (Err f) h = h
 
-list_place : {W A : Type 0} (x : A) (o : Outcome W (List A)) → place (in_list x o) ≡ place o
-list_place x (Ok read) = refl
-list_place x (Err f) = refl
-
 module _ {W A : Type 0} {p q : Parser W (List A)} (x : A) (part : IsLarger p q) where
   pub list_larger : IsLarger (λ s. in_list x (p s)) (λ s. in_list x (q s))
   list_larger = record { later = λ m s h. list_later x m (p s) (q (plus m s)) (part.later m s h); forward = λ s. omega (arith, list_place x (q s), part.forward s) }
 
 module _ {W A : Type 0} {p q : Parser W A} (test : Option W → Bool) (part : IsLarger p q) where
-  turn_larger : (turns : ℕ) → IsLarger (parser.choose test (parser.and_then p (λ x s. in_list x (repeated_from test p turns s))) (parser.done [])) (parser.choose test (parser.and_then q (λ x s. in_list x (repeated_from test q turns s))) (parser.done []))
+  turn_larger : (turns : ℕ)
+      → IsLarger (parser.choose test (parser.and_then p (λ x s. in_list x (repeated_from test p turns s))) (parser.done [])) (parser.choose test (parser.and_then q (λ x s. in_list x (repeated_from test q turns s))) (parser.done []))
       → IsLarger (repeated_from test p (suc turns)) (repeated_from test q (suc turns))
   unfolding parser.choose repeated_from
   turn_larger turns f = record { later = f.later; forward = f.forward }
@@ -122,17 +112,14 @@ module _ {W A : Type 0} {p q : Parser W A} (test : Option W → Bool) (part : Is
 
 -- a part by itself
 module _ {W A : Type 0} {p q : Parser W A} (part : IsLarger p q) where
-  alone_later : (n m : ℕ) (o r : Outcome W A) → IsLater m o r → IsLater m (restored n o) (restored (n + m) r)
+  alone_later : (n m : ℕ) (o r : Outcome W A) → IsLater m o r
+      → IsLater m (restored n o) (restored (n + m) r)
   unfolding IsLater
   alone_later n m (Ok read) r h = rw h refl
   alone_later n m (Err (fault.Grammar k)) r h = rw h refl
   alone_later n m (Err (fault.TooDeep k)) (Ok read) h = h
   alone_later n m (Err (fault.TooDeep k)) (Err f) h = h
 
-  alone_place : (n : ℕ) (o : Outcome W A) → place (restored n o) ≡ place o
-  alone_place n (Ok read) = refl
-  alone_place n (Err f) = refl
-
   pub alone_larger : IsLarger (parser.alone p) (parser.alone q)
   unfolding parser.alone
-  alone_larger = record { later = λ m s h. alone_later s.room m (p s) (q (plus m s)) (part.later m s h); forward = λ s. omega (arith, alone_place s.room (q s), part.forward s) }
+  alone_larger = record { later = λ m s h. alone_later s.room m (p s) (q (plus m s)) (part.later m s h); forward = λ s. omega (arith, restored_place s.room (q s), part.forward s) }

@@ -7,7 +7,8 @@ use Rattle.nf_grammar.specs.Places.{Limits, IsText, IsFront, GoesTo, GoesFurther
 use Rattle.nf_grammar.specs.declared.fault.Fault.{Fault}
 use Rattle.nf_grammar.specs.declared.fault.Fault.TheVariants as fault
 use Rattle.nf_grammar.specs.inner.Parsers.{Outcome, Parser, place_of, place}
-use Rattle.nf_grammar.proofs.Public.ReaderLemmas.{Next, IsAtFront, IsReader, ok_is, no_ok, err_is}
+use Rattle.nf_grammar.proofs.Public.OutcomeLemmas.{ok_is, no_ok, err_is}
+use Rattle.nf_grammar.proofs.Public.ReaderLemmas.{Next, IsAtFront, IsReader}
 use Rattle.nf_grammar.proofs.Public.LimitLemmas.{IsLarger, IsLater}
 
 -- what an outcome answers
@@ -35,7 +36,9 @@ module _ {W A : Type 0} {p : ℕ → Parser W A} {texts : ℕ → Part W A} (are
     front : IsFront texts limits words count
     is : left ≡ length words - count
 
-  front_left : (limits : Limits) (words : List W) (left : ℕ) → IsAtFront (texts limits.depth) (state limits.room words) left → IsFrontLeft limits words left
+  front_left : (limits : Limits) (words : List W) (left : ℕ)
+      → IsAtFront (texts limits.depth) (state limits.room words) left
+      → IsFrontLeft limits words left
   front_left limits words left a =
       let b = (are.reads limits.depth).behind (state limits.room words) a.end a.front in
       record {
@@ -44,26 +47,31 @@ module _ {W A : Type 0} {p : ℕ → Parser W A} {texts : ℕ → Part W A} (are
         is = sym a.here ∙ ap length b.last ∙ length-drop b.count words;
       }
 
-  fault_front : (limits : Limits) (words : List W) (f : Fault) → outcome limits words ≡ Err f → IsFrontLeft limits words (place_of f)
+  fault_front : (limits : Limits) (words : List W) (f : Fault) → outcome limits words ≡ Err f
+      → IsFrontLeft limits words (place_of f)
   fault_front limits words f e = front_left limits words (place_of f) ((are.reads limits.depth).at (state limits.room words) f e)
 
   -- a reading goes as far as every front
-  reached : (limits : Limits) (words : List W) (count : ℕ) → IsFront texts limits words count → place (outcome limits words) ≤ length words - count
+  reached : (limits : Limits) (words : List W) (count : ℕ) → IsFront texts limits words count
+      → place (outcome limits words) ≤ length words - count
   reached limits words count f =
       let r = (are.reads limits.depth).reach (state limits.room words) (state f.left (drop count words)) f.front in
       omega (arith, r, length-drop count words)
 
-  whole_front : (limits : Limits) (words : List W) (x : A) → IsText texts limits words x → IsFront texts limits words (length words)
+  whole_front : (limits : Limits) (words : List W) (x : A) → IsText texts limits words x
+      → IsFront texts limits words (length words)
   whole_front limits words x w = record {
     within = omega arith;
     left = w.left;
     front = subst (λ ws. (texts limits.depth).front (state limits.room words) (state w.left ws)) (sym (drop_all (length words) words (omega arith))) ((are.reads limits.depth).whole (state limits.room words) (state w.left []) x w.word);
   }
 
-  text_read : (limits : Limits) (words : List W) (x : A) (w : IsText texts limits words x) → outcome limits words ≡ Ok (x, state w.left [])
+  text_read : (limits : Limits) (words : List W) (x : A) (w : IsText texts limits words x)
+      → outcome limits words ≡ Ok (x, state w.left [])
   text_read limits words x w = (are.reads limits.depth).complete (state limits.room words) (state w.left []) x w.word (are.at_end limits.depth)
 
-  read_text : (limits : Limits) (words : List W) (read : A × State W) → outcome limits words ≡ Ok read → IsText texts limits words read.0
+  read_text : (limits : Limits) (words : List W) (read : A × State W)
+      → outcome limits words ≡ Ok read → IsText texts limits words read.0
   read_text limits words read e = record {
     left = read.1.room;
     word = subst (λ ws. (texts limits.depth).word (state limits.room words) read.0 (state read.1.room ws)) (are.to_end limits.depth (state limits.room words) read.1 read.0 e) ((are.reads limits.depth).sound (state limits.room words) read.1 read.0 e);
@@ -73,10 +81,12 @@ module _ {W A : Type 0} {p : ℕ → Parser W A} {texts : ℕ → Part W A} (are
   abbrev joined : Limits → Limits → Limits
   joined a b = record { depth = a.depth + suc b.depth; room = a.room + suc b.room }
 
-  left_later : (a b : Limits) (words : List W) → IsLater (suc b.room) (outcome a words) (outcome (joined a b) words)
+  left_later : (a b : Limits) (words : List W)
+      → IsLater (suc b.room) (outcome a words) (outcome (joined a b) words)
   left_later a b words = (are.larger a.depth (suc b.depth) (omega arith)).later (suc b.room) (state a.room words) (omega arith)
 
-  right_later : (a b : Limits) (words : List W) → IsLater (suc a.room) (outcome b words) (outcome (joined a b) words)
+  right_later : (a b : Limits) (words : List W)
+      → IsLater (suc a.room) (outcome b words) (outcome (joined a b) words)
   right_later a b words =
       let d : b.depth + suc a.depth ≡ a.depth + suc b.depth = omega arith in
       let r : b.room + suc a.room ≡ a.room + suc b.room = omega arith in
@@ -85,36 +95,43 @@ module _ {W A : Type 0} {p : ℕ → Parser W A} {texts : ℕ → Part W A} (are
       ((are.larger b.depth (suc a.depth) (omega arith)).later (suc a.room) (state b.room words) (omega arith)))
 
   -- what is refused as grammar is so within larger limits
-  grammar_later : (a b : Limits) (words : List W) (n : ℕ) → outcome a words ≡ Err (fault.Grammar n) → outcome (joined a b) words ≡ Err (fault.Grammar n)
+  grammar_later : (a b : Limits) (words : List W) (n : ℕ) → outcome a words ≡ Err (fault.Grammar n)
+      → outcome (joined a b) words ≡ Err (fault.Grammar n)
   unfolding IsLater
   grammar_later a b words n e = subst (λ o. IsLater (suc b.room) o (outcome (joined a b) words)) e (left_later a b words)
 
   -- and under any limits a reading goes no further
-  no_further : (a b : Limits) (words : List W) (n : ℕ) → outcome a words ≡ Err (fault.Grammar n) → place (outcome b words) < n → ⊥
+  no_further : (a b : Limits) (words : List W) (n : ℕ) → outcome a words ≡ Err (fault.Grammar n)
+      → place (outcome b words) < n → ⊥
   unfolding IsLater
   no_further a b words n e l = go (outcome b words) refl (right_later a b words)
     where
-      go : (o : Outcome W A) → outcome b words ≡ o → IsLater (suc a.room) o (outcome (joined a b) words) → ⊥
+      go : (o : Outcome W A) → outcome b words ≡ o
+          → IsLater (suc a.room) o (outcome (joined a b) words) → ⊥
       go (Ok read) i h = no_ok _ _ (sym (grammar_later a b words n e) ∙ h)
       go (Err (fault.Grammar m)) i h =
           let same : m ≡ n = ap place_of (err_is {W = W} {A = A} _ _ (sym h ∙ grammar_later a b words n e)) in
           omega (arith, l, ap place i, same)
       go (Err (fault.TooDeep m)) i h = omega (arith, l, ap place i, h, ap place (grammar_later a b words n e))
 
-  no_text : (a b : Limits) (words : List W) (n : ℕ) (x : A) → outcome a words ≡ Err (fault.Grammar n) → IsText texts b words x → ⊥
+  no_text : (a b : Limits) (words : List W) (n : ℕ) (x : A)
+      → outcome a words ≡ Err (fault.Grammar n) → IsText texts b words x → ⊥
   unfolding IsLater
   no_text a b words n x e w =
       let h = subst (λ o. IsLater (suc a.room) o (outcome (joined a b) words)) (text_read b words x w) (right_later a b words) in
       no_ok _ _ (sym (grammar_later a b words n e) ∙ h)
 
-  goes_to : (limits : Limits) (words : List W) (f : Fault) → outcome limits words ≡ Err f → (l : IsFrontLeft limits words (place_of f)) → GoesTo texts limits words l.count
+  goes_to : (limits : Limits) (words : List W) (f : Fault) → outcome limits words ≡ Err f
+      → (l : IsFrontLeft limits words (place_of f)) → GoesTo texts limits words l.count
   goes_to limits words f e l = record {
     front = l.front;
     no_more = λ more above front. omega (arith, above, reached limits words more front, ap place e, l.is, front.within);
   }
 
   -- where a limit was passed, more words are a front within larger limits
-  further : (limits : Limits) (words : List W) (n : ℕ) → outcome limits words ≡ Err (fault.TooDeep n) → (l : IsFrontLeft limits words n) → GoesFurther texts words l.count
+  further : (limits : Limits) (words : List W) (n : ℕ)
+      → outcome limits words ≡ Err (fault.TooDeep n) → (l : IsFrontLeft limits words n)
+      → GoesFurther texts words l.count
   unfolding IsLater
   further limits words n e l = go (outcome more words) refl
     where
@@ -136,10 +153,13 @@ module _ {W A : Type 0} {p : ℕ → Parser W A} {texts : ℕ → Part W A} (are
           record { other = more; more = k.count; further = omega (arith, past, l.is, k.is, ap place i, k.front.within, l.front.within); front = k.front }
 
   -- what is read is the answer
-  pub answered : (limits : Limits) (words : List W) → Answers texts limits words (result_of (outcome limits words))
+  pub answered : (limits : Limits) (words : List W)
+      → Answers texts limits words (result_of (outcome limits words))
   answered limits words = go (outcome limits words) refl
     where
-      by_count : (n : ℕ) → outcome limits words ≡ Err (fault.Grammar n) → (l : IsFrontLeft limits words n) → ◌⊎◌ (n ≡ 0) (0 < n) → Answers texts limits words (Err (fault.Grammar n))
+      by_count : (n : ℕ) → outcome limits words ≡ Err (fault.Grammar n)
+          → (l : IsFrontLeft limits words n) → ◌⊎◌ (n ≡ 0) (0 < n)
+          → Answers texts limits words (Err (fault.Grammar n))
       by_count n e l (inl zero_left) =
           let all : l.count ≡ length words = omega (arith, zero_left, l.is, l.front.within) in
           subst (λ m. Answers texts limits words (Err (fault.Grammar m))) (sym zero_left)
@@ -161,7 +181,8 @@ module _ {W A : Type 0} {p : ℕ → Parser W A} {texts : ℕ → Part W A} (are
           subst (λ m. Answers texts limits words (Err (fault.TooDeep m))) (sym l.is) (too_deep (goes_to limits words (fault.TooDeep n) e l) (further limits words n e l))
 
   -- words go so far in one way
-  one_count : (limits : Limits) (words : List W) (m n : ℕ) → GoesTo texts limits words m → GoesTo texts limits words n → m ≡ n
+  one_count : (limits : Limits) (words : List W) (m n : ℕ) → GoesTo texts limits words m
+      → GoesTo texts limits words n → m ≡ n
   one_count limits words m n a b = go (order m n)
     where
       order : (m n : ℕ) → (m < n) ⊎ ((n < m) ⊎ (m ≡ n))
@@ -176,11 +197,13 @@ module _ {W A : Type 0} {p : ℕ → Parser W A} {texts : ℕ → Part W A} (are
   not_all : (words : List W) (count : ℕ) → GoesFurther texts words count → count < length words
   not_all words count g = omega (arith, g.further, g.front.within)
 
-  text_goes : (limits : Limits) (words : List W) (x : A) (count : ℕ) → IsText texts limits words x → GoesTo texts limits words count → count < length words → ⊥
+  text_goes : (limits : Limits) (words : List W) (x : A) (count : ℕ) → IsText texts limits words x
+      → GoesTo texts limits words count → count < length words → ⊥
   text_goes limits words x count w g l = g.no_more (length words) l (whole_front limits words x w)
 
   -- words have one answer
-  pub one_answer : (limits : Limits) (words : List W) (a b : Result A Fault) → Answers texts limits words a → Answers texts limits words b → a ≡ b
+  pub one_answer : (limits : Limits) (words : List W) (a b : Result A Fault)
+      → Answers texts limits words a → Answers texts limits words b → a ≡ b
   one_answer limits words _ _ (text {x} v) (text {x = y} w) = ap (λ (r : A × State W). Ok r.0) (ok_is _ _ (outcome limits words) (text_read limits words x v) (text_read limits words y w))
   one_answer limits words _ _ (text {x} v) (too_deep {count} g h) = absurd (text_goes limits words x count v g (not_all words count h))
   one_answer limits words _ _ (text {x} v) (grammar {count} g l h) = absurd (text_goes limits words x count v g l)

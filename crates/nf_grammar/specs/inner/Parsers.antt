@@ -90,9 +90,12 @@ in_list x (Ok read) = Ok (x ∷ read.0, read.1)
 in_list x (Err f) = Err f
 
 -- a part as long as the next word passes a test, in at most so many turns
-unfoldable pub repeated_from : {W A : Type 0} → (Option W → Bool) → Parser W A → ℕ → Parser W (List A)
+unfoldable pub repeated_from : {W A : Type 0} → (Option W → Bool) → Parser W A → ℕ
+    → Parser W (List A)
 repeated_from test p zero s = Ok ([], s)
-repeated_from test p (suc turns) s = if test (next s) then bind (p s) (λ x t. in_list x (repeated_from test p turns t)) else Ok ([], s)
+repeated_from test p (suc turns) s =
+    if test (next s) then bind (p s) (λ x t. in_list x (repeated_from test p turns t))
+    else Ok ([], s)
 
 -- each turn takes a word
 unfoldable pub repeated : {W A : Type 0} → (Option W → Bool) → Parser W A → Parser W (List A)

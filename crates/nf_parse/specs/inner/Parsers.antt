@@ -1,15 +1,17 @@
 -- Parsers over the words of a source, with the names that the reader of specifications has for them.
-use Rattle.std.specs.Prelude.{◌≡◌, ◌≤◌, ◌<◌, ℕ, Bool, false, List, [], ◌∷◌, length, Option, Some, None, Ok}
+use Rattle.std.specs.Prelude.{◌≡◌, ◌≤◌, ◌<◌, ℕ, Bool, false, List, [], ◌∷◌, length, All, Option, Some, None, Ok}
 use denote.Enum.Bare.{sameb}
 use Rattle.nf_parse.specs.contracts.symbol.Sym.{the_type}
 use Rattle.nf_parse.specs.declared.symbol.Sym.{Sym}
+use Rattle.nf_lex.specs.declared.token.Token.{Token}
 use Rattle.nf_lex.specs.declared.token.TokenKind.{TokenKind}
 use Rattle.nf_lex.specs.Words.{kind_of}
 use Rattle.nf_lex.specs.Faults.{fault_of}
-use Rattle.nf_grammar.specs.State.{next}
+use Rattle.nf_lex.specs.Layout.{IsTokenOf}
+use Rattle.nf_grammar.specs.State.{next, next_of}
 use Rattle.nf_grammar.specs.inner.Parsers as parser
 use Rattle.nf_grammar.specs.inner.Parsers.{and_then, done, choose, repeated}
-use Rattle.nf_parse.specs.State.{Word, State, sym_of, of_kind}
+use Rattle.nf_parse.specs.State.{Word, State, sym_of, words_of, kind_of_next, of_kind}
 
 abbrev pub Outcome : Type 0 → Type 0
 Outcome A = parser.Outcome Word A
@@ -48,7 +50,8 @@ optional test p = choose test (and_then p (λ x. done (Some x))) (done None)
 
 -- a part, and then separators with parts as long as a separator stands there
 abbrev pub separated : {A : Type 0} → Sym → Parser A → Parser (List A)
-separated separator p = and_then p (λ x. and_then (repeated (is_kind separator) (after separator p)) (λ xs. done (x ∷ xs)))
+separated separator p = and_then p (λ x.
+    and_then (repeated (is_kind separator) (after separator p)) (λ xs. done (x ∷ xs)))
 
 -- the bytes of a word of a kind: those of a token without fault
 pub record IsSound (k : Sym) (bytes : List ℕ) : Type 0 where
@@ -69,3 +72,8 @@ TookWord old new = length new.words < length old.words
 pub record IsWithin (old new : State) : Type 0 where
   pub words : length new.words ≤ length old.words
   pub room : new.room ≤ old.room
+
+-- a reader stands before tokens of its source, and knows what the first of them is to the grammar
+abbrev pub StandsBefore : List ℕ → List Token → Option Sym → Type 0
+StandsBefore source tokens ahead =
+    All (IsTokenOf source) tokens × (ahead ≡ kind_of_next (next_of (words_of source tokens)))

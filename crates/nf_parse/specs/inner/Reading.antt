@@ -30,24 +30,31 @@ is_sign n = is_some (in_table sign_of_word n)
 
 -- an operator of a level with its right operand
 unfoldable pub with_operand : Level → Parser Expr → Parser (BinOp × Expr)
-with_operand l operand = and_then (counted (op_of_word l)) (λ o. and_then operand (λ right. done (o, right)))
+with_operand l operand = and_then (counted (op_of_word l)) (λ o.
+    and_then operand (λ right. done (o, right)))
 
 -- an operator of a level and its right operand, behind a left one
 abbrev pub right_of : Level → Parser Expr → Expr → Parser Expr
-right_of l operand left = and_then (with_operand l operand) (λ next. done (e.Bin next.0 left next.1))
+right_of l operand left = and_then (with_operand l operand)
+    (λ next. done (e.Bin next.0 left next.1))
 
 -- operand { operator operand }
 unfoldable pub chain : Level → Parser Expr → Parser Expr
-chain l operand = and_then operand (λ left. and_then (repeated (is_operator l) (with_operand l operand)) (λ rest. done (joined left rest)))
+chain l operand = and_then operand (λ left.
+    and_then (repeated (is_operator l) (with_operand l operand)) (λ rest. done (joined left rest)))
 
 -- operand [ operator operand ]
 unfoldable pub single : Level → Parser Expr → Parser Expr
-single l operand = and_then operand (λ left. and_then (optional (is_operator l) (with_operand l operand)) (λ rest. done (joined left (option_to_list rest))))
+single l operand = and_then operand (λ left.
+    and_then (optional (is_operator l) (with_operand l operand))
+    (λ rest. done (joined left (option_to_list rest))))
 
 -- what stands behind the `.` of a read
 unfoldable pub member : List ℕ → Parser Expr
-member label = choose (is_kind sym.Ident) (and_then (token sym.Ident) (λ key. done (e.Key label key)))
-    (choose (is_kind sym.Begin) (after sym.Begin (done (e.Start label))) (after sym.End (done (e.Stop label))))
+member label =
+    choose (is_kind sym.Ident) (and_then (token sym.Ident) (λ key. done (e.Key label key)))
+    (choose (is_kind sym.Begin) (after sym.Begin (done (e.Start label)))
+    (after sym.End (done (e.Stop label))))
 
 -- a read of a key, of a begin or of an end
 unfoldable pub read : Parser Expr
@@ -55,14 +62,18 @@ read = and_then (token sym.Ident) (λ label. after sym.Dot (member label))
 
 -- an operand without operators, by its first word
 unfoldable pub primary : Parser Expr → Parser Expr
-primary paren = choose (is_kind sym.Number) (and_then (token sym.Number) (λ bytes. done (e.Int (pos (digits_value 10 bytes)))))
+primary paren =
+    choose (is_kind sym.Number) (and_then (token sym.Number)
+    (λ bytes. done (e.Int (pos (digits_value 10 bytes)))))
     (choose (is_kind sym.Text) (and_then (token sym.Text) (λ bytes. done (e.Text (body_of bytes))))
-    (choose (is_kind sym.True) (after sym.True (done (e.Bool true))) (choose (is_kind sym.False) (after sym.False (done (e.Bool false)))
+    (choose (is_kind sym.True) (after sym.True (done (e.Bool true)))
+    (choose (is_kind sym.False) (after sym.False (done (e.Bool false)))
     (choose (is_kind sym.Ident) read paren))))
 
 -- signs and then an operand
 unfoldable pub unary : Parser Expr → Parser Expr
-unary prim = and_then (repeated is_sign (counted sign_of_word)) (λ signs. and_then prim (λ x. done (signed signs x)))
+unary prim = and_then (repeated is_sign (counted sign_of_word)) (λ signs.
+    and_then prim (λ x. done (signed signs x)))
 
 module _ (paren : Parser Expr) where
   -- an operand behind any number of signs

@@ -37,11 +37,13 @@ xop_of_word word = xop_of word.0
 
 -- op atom
 unfoldable pub pair : Atom → Parser Body
-pair first = and_then (parser.token op_of_word) (λ o. and_then atom (λ second. done (body.Pair first o second)))
+pair first = and_then (parser.token op_of_word) (λ o.
+    and_then atom (λ second. done (body.Pair first o second)))
 
 -- "unless" xop atom
 unfoldable pub exclusive : Atom → Parser Body
-exclusive first = after Unless (and_then (parser.token xop_of_word) (λ x. and_then atom (λ second. done (body.Unless first x second))))
+exclusive first = after Unless (and_then (parser.token xop_of_word) (λ x.
+    and_then atom (λ second. done (body.Unless first x second))))
 
 -- whether a word is an inclusive operator
 abbrev pub is_op : Option Word → Bool
@@ -53,7 +55,8 @@ ends_body n = not (is_op n || is_kind Unless n)
 
 -- what stands behind the first atom of a body
 abbrev pub body_behind : Atom → Parser Body
-body_behind first = choose ends_body (done (body.One first)) (choose is_op (pair first) (exclusive first))
+body_behind first = choose ends_body (done (body.One first))
+    (choose is_op (pair first) (exclusive first))
 
 -- body = atom | atom op atom | atom "unless" xop atom
 unfoldable pub rule_body : Parser Body
@@ -90,7 +93,8 @@ module _ (expression : Parser Expr) where
 
   -- entry = IDENT "->" expr
   unfoldable pub entry : Parser Entry
-  entry = and_then (token Ident) (λ key. and_then (clause Arrow) (λ value. done (record { key = key; value = value })))
+  entry = and_then (token Ident) (λ key. and_then (clause Arrow) (λ value.
+      done (record { key = key; value = value })))
 
   -- "," entry
   abbrev pub next_entry : Parser Entry
@@ -106,7 +110,8 @@ module _ (expression : Parser Expr) where
 
   -- "map" "{" [ entry { "," entry } ] "}"
   unfoldable pub entries : Parser (List Entry)
-  entries = after Map (and_then (enclosed OpenBrace inner_entries CloseBrace) (λ entries. done (unwrap_or entries [])))
+  entries = after Map (and_then (enclosed OpenBrace inner_entries CloseBrace)
+      (λ entries. done (unwrap_or entries [])))
 
   -- [ "map" .. ]
   abbrev pub optional_entries : Parser (Option (List Entry))
@@ -114,9 +119,17 @@ module _ (expression : Parser Expr) where
 
   -- rule = IDENT ":-" body [ "where" expr ] [ "map" .. ] [ "begin" expr ] [ "end" expr ]
   unfoldable pub rule : Parser Rule
-  rule = and_then (token Ident) (λ head. after Defines (and_then rule_body (λ body. and_then (optional_clause Where) (λ filter. and_then optional_entries (λ entries.
+  rule = and_then (token Ident) (λ head. after Defines (and_then rule_body (λ body.
+      and_then (optional_clause Where) (λ filter. and_then optional_entries (λ entries.
       and_then (optional_clause Begin) (λ start. and_then (optional_clause End) (λ stop.
-      done (record { head = head; body = body; filter = filter; entries = unwrap_or entries []; start = start; stop = stop }))))))))
+      done (record {
+        head = head;
+        body = body;
+        filter = filter;
+        entries = unwrap_or entries [];
+        start = start;
+        stop = stop;
+      }))))))))
 
   -- { rule }
   unfoldable pub rules : Parser (List Rule)
@@ -124,12 +137,15 @@ module _ (expression : Parser Expr) where
 
   -- module = "module" IDENT "{" [ "import" .. ] { rule } "}"
   unfoldable pub module_word : Parser Module
-  module_word = after sym.Module (and_then (token Ident) (λ name. enclosed OpenBrace (and_then optional_imports (λ imports. and_then rules (λ rules.
-      done (record { name = Some name; imports = unwrap_or imports []; rules = rules })))) CloseBrace))
+  module_word = after sym.Module (and_then (token Ident) (λ name. enclosed OpenBrace
+      (and_then optional_imports (λ imports. and_then rules (λ rules.
+      done (record { name = Some name; imports = unwrap_or imports []; rules = rules }))))
+      CloseBrace))
 
   -- rule | module
   unfoldable pub item : Parser Item
-  item = choose is_ident (and_then rule (λ rule. done (loose rule))) (and_then module_word (λ m. done (named m)))
+  item = choose is_ident (and_then rule (λ rule. done (loose rule)))
+      (and_then module_word (λ m. done (named m)))
 
   -- file = { rule | module }, up to the end of the words
   unfoldable pub file : Parser (List Module)

@@ -1,12 +1,12 @@
 use Rattle.std.proofs.Common.{◌∙◌, sym, [], refl}
 use Rattle.std.proofs.lemmas.List.Elements.{All-nil, All-cons, All-push}
 use Rattle.std.proofs.lemmas.Result.{err_from_is_err_and}
+use Rattle.nf_grammar.proofs.Public.OutcomeLemmas.{stop_reads}
 use Rattle.nf_parse.specs.declared.symbol.Sym.TheVariants as kind
 use Rattle.nf_parse.specs.inner.Parsers.{is_kind}
 use Rattle.nf_parse.specs.inner.RuleReading as spec
 use Rattle.nf_parse.specs.inner.Limited.{HasLimitedValue}
 use Rattle.nf_parse.proofs.PartListLemmas.{separated_start, separated_stops, list_more, list_stops, list_ends, within_more}
-use Rattle.nf_parse.proofs.OutcomeLemmas.{stop_reads}
 use Rattle.nf_parse.proofs.clauses.entry_list.Goals as goal
 
 pub entries-init : goal.entries-init

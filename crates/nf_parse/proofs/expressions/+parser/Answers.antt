@@ -2,14 +2,14 @@ use Rattle.std.proofs.Common.{◌≡◌, sym, ap, ◌∙◌, subst, is_some, Som
 use Rattle.std.proofs.lemmas.Result.{err_from_is_err_and}
 use Rattle.nf_grammar.specs.State.{next}
 use Rattle.nf_grammar.specs.inner.Parsers.{in_table, Reads}
+use Rattle.nf_grammar.proofs.Public.OutcomeLemmas.{stop_reads}
 use Rattle.nf_parse.specs.Grammar.{op_at}
 use Rattle.nf_parse.specs.declared.level.Level.TheVariants as level
 use Rattle.nf_parse.specs.declared.symbol.Sym.TheVariants as kind
 use Rattle.nf_parse.specs.State.{kind_of_next}
 use Rattle.nf_parse.specs.inner.Reading as spec
 use Rattle.nf_parse.proofs.StepLemmas.{table_at, some_word}
-use Rattle.nf_parse.proofs.OperandLoopLemmas.{chain_start, chain_stops, chain_step, chain_stop, chain_end, single_stops, single_alone, single_pair, right_read, right_full, right_stops, minus_read, minus_full, minus_stops, bang_read, bang_full, bang_stops}
-use Rattle.nf_parse.proofs.OutcomeLemmas.{stop_reads}
+use Rattle.nf_parse.proofs.OperandLoopLemmas.{chain_start, chain_stops, chain_step, chain_stop, chain_end, single_stops, single_alone, single_pair, right_read, right_full, right_stops, minus_sign, bang_sign, sign_read, sign_full, sign_stops}
 use Rattle.nf_parse.proofs.expressions.+parser.Goals as goal
 
 pub chain-returns-in_err-left-clause-reads : goal.chain-returns-in_err-left-clause-reads
@@ -83,20 +83,20 @@ unary-returns-in_err-operator-in-Some-Minus-clause-reads t c =
     let p = err_from_is_err_and c.from_residual.result c.from_residual.ensures.1 in
     let full = c.in_err-operator-in-Some-Minus.ensures.full in
     let h : kind_of_next (next c.args.reader.now) ≡ Some kind.Minus = cc in
-    rw (p.1, p.2, full.1) (minus_full (spec.primary (spec.paren c.args.depth)) c.args.reader.now h full.0)
+    rw (p.1, p.2, full.1) (sign_full (spec.primary (spec.paren c.args.depth)) kind.Minus _ minus_sign c.args.reader.now h full.0)
 
 pub unary-returns-in_err-operand-in-Some-Minus-clause-reads : goal.unary-returns-in_err-operand-in-Some-Minus-clause-reads
 unary-returns-in_err-operand-in-Some-Minus-clause-reads t c =
     let p = err_from_is_err_and c.from_residual-in_err-operand-in-Some-Minus.result c.from_residual-in_err-operand-in-Some-Minus.ensures.1 in
     let h : kind_of_next (next c.args.reader.now) ≡ Some kind.Minus = cc in
     rw (p.1, p.2) (stop_reads (spec.signed_operand (spec.paren c.args.depth) c.operator.new.self) _ _ _ _
-    (λ f e. minus_stops (spec.primary (spec.paren c.args.depth)) c.args.reader.now c.operator.new.self f h c.in_ok-operator-in-Some-Minus.ensures.past c.in_ok-operator-in-Some-Minus.ensures.words e)
+    (λ f e. sign_stops (spec.primary (spec.paren c.args.depth)) kind.Minus _ minus_sign c.args.reader.now h c.operator.new.self f c.in_ok-operator-in-Some-Minus.ensures.past c.in_ok-operator-in-Some-Minus.ensures.words e)
     c.in_err-operand-in-Some-Minus.ensures.reads)
 
 pub unary-returns-in_ok-new-in-Some-Minus-clause-reads : goal.unary-returns-in_ok-new-in-Some-Minus-clause-reads
 unary-returns-in_ok-new-in-Some-Minus-clause-reads t c =
     let h : kind_of_next (next c.args.reader.now) ≡ Some kind.Minus = cc in
-    let r = minus_read (spec.primary (spec.paren c.args.depth)) c.args.reader.now c.operator.new.self c.unary.new.reader c.in_ok-operand-in-Some-Minus.operand h
+    let r = sign_read (spec.primary (spec.paren c.args.depth)) kind.Minus _ minus_sign c.args.reader.now h c.operator.new.self c.unary.new.reader c.in_ok-operand-in-Some-Minus.operand
     c.in_ok-operator-in-Some-Minus.ensures.past c.in_ok-operator-in-Some-Minus.ensures.words c.in_ok-operand-in-Some-Minus.ensures.reads in
     rw c.in_ok-new-in-Some-Minus.ensures r
 
@@ -105,19 +105,19 @@ unary-returns-in_err-operator-in-Some-Bang-clause-reads t c =
     let p = err_from_is_err_and c.from_residual-in_err-operator-in-Some-Bang.result c.from_residual-in_err-operator-in-Some-Bang.ensures.1 in
     let full = c.in_err-operator-in-Some-Bang.ensures.full in
     let h : kind_of_next (next c.args.reader.now) ≡ Some kind.Bang = cc in
-    rw (p.1, p.2, full.1) (bang_full (spec.primary (spec.paren c.args.depth)) c.args.reader.now h full.0)
+    rw (p.1, p.2, full.1) (sign_full (spec.primary (spec.paren c.args.depth)) kind.Bang _ bang_sign c.args.reader.now h full.0)
 
 pub unary-returns-in_err-operand-in-Some-Bang-clause-reads : goal.unary-returns-in_err-operand-in-Some-Bang-clause-reads
 unary-returns-in_err-operand-in-Some-Bang-clause-reads t c =
     let p = err_from_is_err_and c.from_residual-in_err-operand-in-Some-Bang.result c.from_residual-in_err-operand-in-Some-Bang.ensures.1 in
     let h : kind_of_next (next c.args.reader.now) ≡ Some kind.Bang = cc in
     rw (p.1, p.2) (stop_reads (spec.signed_operand (spec.paren c.args.depth) c.operator-in-Some-Bang.new.self) _ _ _ _
-    (λ f e. bang_stops (spec.primary (spec.paren c.args.depth)) c.args.reader.now c.operator-in-Some-Bang.new.self f h c.in_ok-operator-in-Some-Bang.ensures.past c.in_ok-operator-in-Some-Bang.ensures.words e)
+    (λ f e. sign_stops (spec.primary (spec.paren c.args.depth)) kind.Bang _ bang_sign c.args.reader.now h c.operator-in-Some-Bang.new.self f c.in_ok-operator-in-Some-Bang.ensures.past c.in_ok-operator-in-Some-Bang.ensures.words e)
     c.in_err-operand-in-Some-Bang.ensures.reads)
 
 pub unary-returns-in_ok-new-in-Some-Bang-clause-reads : goal.unary-returns-in_ok-new-in-Some-Bang-clause-reads
 unary-returns-in_ok-new-in-Some-Bang-clause-reads t c =
     let h : kind_of_next (next c.args.reader.now) ≡ Some kind.Bang = cc in
-    let r = bang_read (spec.primary (spec.paren c.args.depth)) c.args.reader.now c.operator-in-Some-Bang.new.self c.unary-in-Some-Bang.new.reader c.in_ok-operand-in-Some-Bang.operand h
+    let r = sign_read (spec.primary (spec.paren c.args.depth)) kind.Bang _ bang_sign c.args.reader.now h c.operator-in-Some-Bang.new.self c.unary-in-Some-Bang.new.reader c.in_ok-operand-in-Some-Bang.operand
     c.in_ok-operator-in-Some-Bang.ensures.past c.in_ok-operator-in-Some-Bang.ensures.words c.in_ok-operand-in-Some-Bang.ensures.reads in
     rw c.in_ok-new-in-Some-Bang.ensures r

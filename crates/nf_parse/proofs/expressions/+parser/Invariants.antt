@@ -25,7 +25,8 @@ abbrev pub decreases-unary : goal.decreases-unary
 decreases-unary l = 20 * length l.reader.now.words + 2
 
 abbrev pub invariant-chain-operands : goal.invariant-chain-operands
-invariant-chain-operands l = IsChainAt l.level (spec.operand (spec.paren l.depth) l.level) l.fn.reader l.left l.reader
+invariant-chain-operands l =
+    IsChainAt l.level (spec.operand (spec.paren l.depth) l.level) l.fn.reader l.left l.reader
 
 abbrev pub decreases-chain-operands : goal.decreases-chain-operands
 decreases-chain-operands l = length l.reader.words

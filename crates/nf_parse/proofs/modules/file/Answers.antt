@@ -2,11 +2,11 @@ use Rattle.std.proofs.Common.{◌∙◌, sym, ap, arith}
 use Rattle.std.specs.Prelude.{is_some}
 use Rattle.std.proofs.lemmas.Result.{err_from_is_err_and}
 use Rattle.nf_grammar.specs.State.{next}
+use Rattle.nf_grammar.proofs.Public.OutcomeLemmas.{stop_reads}
 use Rattle.nf_parse.specs.inner.RuleReading as spec
 use Rattle.nf_parse.proofs.StepLemmas.{some_kind}
 use Rattle.nf_parse.proofs.RuleReaderLemmas.{limited_shorter}
 use Rattle.nf_parse.proofs.PartListLemmas.{within_more}
-use Rattle.nf_parse.proofs.OutcomeLemmas.{stop_reads}
 use Rattle.nf_parse.proofs.FileLoopLemmas.{file_start, file_more, file_stops, file_ends}
 use Rattle.nf_parse.proofs.modules.file.Goals as goal
 

@@ -1,10 +1,10 @@
 use Rattle.std.proofs.Common.{◌∙◌, sym, refl}
 use Rattle.std.proofs.lemmas.Result.{err_from_is_err_and}
+use Rattle.nf_grammar.proofs.Public.OutcomeLemmas.{stop_reads}
 use Rattle.nf_parse.specs.declared.symbol.Sym.TheVariants as kind
 use Rattle.nf_parse.specs.inner.Parsers.{is_kind, token}
 use Rattle.nf_parse.specs.inner.RuleReading as spec
 use Rattle.nf_parse.proofs.PartListLemmas.{separated_start, separated_stops, list_more, list_stops, list_ends, within_more}
-use Rattle.nf_parse.proofs.OutcomeLemmas.{stop_reads}
 use Rattle.nf_parse.proofs.modules.name_list.Goals as goal
 
 pub names-init : goal.names-init

@@ -6,7 +6,8 @@ use Rattle.nf_parse.proofs.PartListLemmas.{IsListAt}
 use Rattle.nf_parse.proofs.modules.name_list.Given as goal
 
 abbrev pub invariant-names : goal.invariant-names
-invariant-names l = IsListAt (is_kind sym.Comma) spec.next_name (spec.name_list l.fn.reader) l.names l.reader
+invariant-names l =
+    IsListAt (is_kind sym.Comma) spec.next_name (spec.name_list l.fn.reader) l.names l.reader
     × IsWithin l.fn.reader l.reader
 
 abbrev pub decreases-names : goal.decreases-names

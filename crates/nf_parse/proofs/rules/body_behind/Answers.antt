@@ -1,7 +1,7 @@
 use Rattle.std.proofs.Common.{sym}
 use Rattle.std.proofs.lemmas.Result.{err_from_is_err_and}
+use Rattle.nf_grammar.proofs.Public.OutcomeLemmas.{stop_reads}
 use Rattle.nf_parse.specs.inner.RuleReading as spec
-use Rattle.nf_parse.proofs.OutcomeLemmas.{stop_reads}
 use Rattle.nf_parse.proofs.PartStepLemmas.{pair_read, pair_stops}
 use Rattle.nf_parse.proofs.rules.body_behind.Goals as goal
 

@@ -1,9 +1,9 @@
 use Rattle.std.proofs.Common.{◌∙◌, sym, refl}
 use Rattle.std.proofs.lemmas.Result.{err_from_is_err_and}
+use Rattle.nf_grammar.proofs.Public.OutcomeLemmas.{stop_reads}
 use Rattle.nf_parse.specs.inner.RuleReading as spec
 use Rattle.nf_parse.specs.inner.RuleReading.{rules}
 use Rattle.nf_parse.proofs.PartListLemmas.{list_stops, list_ends}
-use Rattle.nf_parse.proofs.OutcomeLemmas.{stop_reads}
 use Rattle.nf_parse.proofs.rules.rules.Goals as goal
 
 pub returns-in_err-rule-clause-reads : goal.returns-in_err-rule-clause-reads
