@@ -1,12 +1,12 @@
 -- Bytes between their LF bytes, and the cut of them.
 use Rattle.std.proofs.Common.{◌≡◌, ◌<◌, ◌≢◌, ℕ, ◌≤◌, Bool, true, false, cond, not, eqb, List, [], ◌∷◌, ◌++◌, length, refl, ap, ◌∙◌, arith, ⊎_elim}
-use Rattle.std.specs.List.{list_any, list_all, onto_first}
-use Rattle.std.proofs.lemmas.Bool.{or_parts, and_parts, ne_eqb, lt-ltb, le-ltb, not-true, not_from_false, cases_Bool}
+use Rattle.std.specs.List.{onto_first}
+use Rattle.std.proofs.lemmas.Bool.{or_parts, ne_eqb, lt-ltb, le-ltb, not-true, not_from_false, cases_Bool}
 use Rattle.std.proofs.lemmas.List.{append-nil}
 use Rattle.nf_text.specs.Fields.{fields_of}
 use Rattle.nf_line.specs.Lines.{is_empty, is_too_long, with_last, cut, line_limit}
 use Rattle.nf_line.specs.Cutting.{has_feed}
-use Rattle.nf_line.proofs.PlainTextLemmas.{parts_hold_none}
+use Rattle.nf_line.proofs.PlainTextLemmas.{parts_lack_mark, all_last}
 
 -- the parts of bytes between their LF bytes; the last one is what stands behind the last LF
 abbrev pub parts_of : List ℕ → List (List ℕ)
@@ -125,17 +125,9 @@ module _ (more : List ℕ) where
       (cases_Bool (eqb byte 10))
 
 -- the kept bytes hold no LF
-all_last : (test : List ℕ → Bool) (pieces : List (List ℕ)) (kept : List ℕ) → list_all test (pieces ++ kept ∷ []) ≡ true → test kept ≡ true
-all_last test [] kept h = (and_parts (test kept) true h).0
-all_last test (piece ∷ pieces) kept h = all_last test pieces kept (and_parts (test piece) (list_all test (pieces ++ kept ∷ [])) h).1
-
-none_of : (text : List ℕ) → list_any (λ byte. false) text ≡ false
-none_of [] = refl
-none_of (byte ∷ text) = none_of text
-
 pub kept_no_feed : (bytes : List ℕ) (pieces : List (List ℕ)) (kept : List ℕ) → parts_of bytes ≡ pieces ++ kept ∷ [] → has_feed kept ≡ false
 kept_no_feed bytes pieces kept e =
-    let all = parts_hold_none (λ byte. eqb byte 10) (λ byte. false) (λ byte. eqb byte 10) (λ byte a b. a) bytes (none_of bytes) in
+    let all = parts_lack_mark (λ byte. eqb byte 10) bytes in
     not-true _ (all_last (λ part. not (has_feed part)) pieces kept (rw e at all))
 
 -- bytes without LF, and then others, begin with a part that is no shorter

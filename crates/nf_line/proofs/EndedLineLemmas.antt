@@ -8,20 +8,23 @@ use Rattle.nf_line.proofs.CutLemmas.{parts_of, is_some, IsSome, some, some_part,
 use Rattle.nf_line.proofs.CutLineLemmas.{meaning_beyond}
 
 -- the last part of some, behind the others
-record HasLast (parts : List (List ℕ)) : Type 0 where
-  pieces : List (List ℕ)
-  kept : List ℕ
-  are : parts ≡ pieces ++ kept ∷ []
+pub record HasLast (parts : List (List ℕ)) : Type 0 where
+  pub pieces : List (List ℕ)
+  pub kept : List ℕ
+  pub are : parts ≡ pieces ++ kept ∷ []
 
 last_behind : (part : List ℕ) (parts : List (List ℕ)) → HasLast (part ∷ parts)
 last_behind part [] = record { pieces = []; kept = part; are = refl }
 last_behind part (next ∷ parts) = let h = last_behind next parts in record { pieces = part ∷ h.pieces; kept = h.kept; are = ap {B = List (List ℕ)} (λ rest. part ∷ rest) h.are }
 
-last_of : (parts : List (List ℕ)) → IsSome parts → HasLast parts
-last_of _ (some part parts) = last_behind part parts
+last_of_some : (parts : List (List ℕ)) → IsSome parts → HasLast parts
+last_of_some _ (some part parts) = last_behind part parts
+
+pub last_part : (bytes : List ℕ) → HasLast (parts_of bytes)
+last_part bytes = last_of_some (parts_of bytes) (some_part bytes)
 
 -- a last part that is too long is a piece
-long_alone : (kept : List ℕ) → line_limit < length kept → with_last is_too_long (kept ∷ []) ≡ kept ∷ []
+pub long_alone : (kept : List ℕ) → line_limit < length kept → with_last is_too_long (kept ∷ []) ≡ kept ∷ []
 unfolding with_last
 long_alone kept h = let e = lt-ltb line_limit (length kept) h in rw e refl
 
@@ -39,7 +42,7 @@ module _ (counts : List ℕ → Bool) (long : (part : List ℕ) → line_limit <
 
   pub ended_stay : (bytes more : List ℕ) → (rest : List Line) × (map line (with_last counts (parts_of (bytes ++ more))) ≡ map line (cut_off bytes) ++ rest)
   ended_stay bytes more =
-      let last = last_of (parts_of bytes) (some_part bytes) in
+      let last = last_part bytes in
       let first = first_part last.kept more (kept_no_feed bytes last.pieces last.kept last.are) in
       let later = behind last.kept first.first first.others first.longer in
       let ended = map line last.pieces in

@@ -1,5 +1,5 @@
 -- The values of a trace's events are plain, and its numbers are ones that a value may have.
-use Rattle.std.proofs.Common.{◌≡◌, ℕ, ◌+◌, ◌≤◌, ◌^◌, ℤ, ◌≤ℤ◌, pos, negsuc, Bool, true, false, cond, not, ◌&&◌, eqb, leb, ltb, List, [], ◌∷◌, length, map, take, All, ◌↔◌, Option, Some, None, refl, sym, ap, subst, rules, tests, arith}
+use Rattle.std.proofs.Common.{◌≡◌, ℕ, ◌+◌, ◌≤◌, ◌^◌, ℤ, ◌≤ℤ◌, pos, negsuc, Bool, true, false, cond, not, ◌&&◌, eqb, leb, ltb, int_lt, List, [], ◌∷◌, length, map, take, All, ◌↔◌, Option, Some, None, refl, sym, ap, subst, rules, tests, arith}
 use Rattle.std.specs.List.{list_any, list_all, AllByRecursion}
 use Rattle.std.specs.Int.{w64}
 use Rattle.std.specs.Int.RustNames.{FitsSigned}
@@ -15,11 +15,11 @@ use Rattle.nf_text.specs.Fields.{fields_of}
 use Rattle.nf_text.specs.Time.{is_time}
 use Rattle.nf_text.specs.Value.{Spelling, Truth, Whole, Words, spelling_of, is_words, is_separator}
 use Rattle.nf_line.specs.Lines.{is_empty, is_too_long, cut, cut_off, line_limit, without_return, with_last}
-use Rattle.nf_line.specs.Line.{Line, Empty, Accepted, Faulty, Fault, Long, NotText, Parts, parts_of, line, line_within, value_of, spelled, is_text, keys_in, values_in, texts_in, time_in, faults_in, first_fault, judged, formed, accepted}
+use Rattle.nf_line.specs.Line.{Line, Empty, Accepted, Faulty, Fault, Long, NotText, Parts, holds_bar, parts_of, line, line_within, value_of, spelled, is_text, keys_in, values_in, texts_in, time_in, faults_in, first_fault, judged, formed, accepted}
 use Rattle.nf_line.specs.Cutting.{has_feed}
 use Rattle.nf_line.specs.ProperEvents.{IsProperValue, IsProperEvent}
 use Rattle.nf_line.specs.Trace.{Refusal, Ending, Done, TooLong, fallen, judged_event, trace_over, trace, trace_limit}
-use Rattle.nf_line.proofs.PlainTextLemmas.{is_bare, parts_hold_none, unmarked, values_bare, zip_bare}
+use Rattle.nf_line.proofs.PlainTextLemmas.{is_bare, parts_lack_mark, unbarred, unmarked, values_bare, zip_bare}
 use Rattle.nf_line.proofs.CarriageReturnLemmas.{can_be_read}
 use Rattle.nf_line.proofs.CutLemmas as cut_lemmas
 
@@ -66,7 +66,7 @@ module _ (known : AreSpelled) where
   IsRightLine : Line → Type 0
   IsRightLine Empty = Unit {0}
   IsRightLine (Faulty fault) = Unit {0}
-  IsRightLine (Accepted name start stop pairs) = IsI64 start × IsI64 stop × (start ≤ℤ stop) × AllByRecursion (λ (pair : List ℕ × Value). IsProperValue pair.1) pairs
+  IsRightLine (Accepted name start stop pairs) = IsI64 start × IsI64 stop × (start ≤ℤ stop) × AllByRecursion (λ (pair : List ℕ × Value). IsProperValue pair.1) pairs × (holds_bar name ≡ false)
 
   time_right : (n : ℕ) → ltb n (2 ^ 63) ≡ true → IsI64 (pos n)
   time_right n h = record { low = search (rules, tests); high = search (rules, tests, h) }
@@ -84,38 +84,25 @@ module _ (known : AreSpelled) where
       at true e later = let s = subst (λ c. cond c (Some row.0) (first_fault rows) ≡ None) e h in absurd cc
       at false e later = (e, later (subst (λ c. cond c (Some row.0) (first_fault rows) ≡ None) e h))
 
-  -- a line in some form begins when it ends
-  AreAtOneTime : Option Parts → Type 0
-  AreAtOneTime None = Unit {0}
-  AreAtOneTime (Some parts) = parts.start ≡ parts.stop
-
-  at_one_time : (fields : List (List ℕ)) → AreAtOneTime (parts_of fields)
-  unfolding AreAtOneTime
-  at_one_time [] = tt
-  at_one_time (a ∷ []) = tt
-  at_one_time (a ∷ b ∷ []) = refl
-  at_one_time (a ∷ b ∷ c ∷ []) = tt
-  at_one_time (a ∷ b ∷ c ∷ d ∷ []) = refl
-  at_one_time (a ∷ b ∷ c ∷ d ∷ e ∷ fields) = tt
-
-  no_later : (start stop : List ℕ) → start ≡ stop → time_in start ≤ℤ time_in stop
-  no_later start stop e = rw e (search (rules, tests))
+  no_later : (start stop : ℤ) → int_lt stop start ≡ false → start ≤ℤ stop
+  no_later start stop e = search (rules, tests, e)
 
   accepted_right : (text : List ℕ) (parts : Parts) → has_feed text ≡ false → not (is_text text) ≡ false → parts_of (fields_of 124 text) ≡ Some parts → not (is_time parts.start && is_time parts.stop) ≡ false
-      → IsRightLine (accepted parts)
-  unfolding IsRightLine AreAtOneTime
-  accepted_right text parts feed texts is time =
+      → int_lt (time_in parts.stop) (time_in parts.start) ≡ false → IsRightLine (accepted parts)
+  unfolding IsRightLine
+  accepted_right text parts feed texts is time span =
       let times = and_parts (is_time parts.start) (is_time parts.stop) (not-false _ time) in (
         time_of_field parts.start times.0,
         time_of_field parts.stop times.1,
-        no_later parts.start parts.stop (subst AreAtOneTime is (at_one_time (fields_of 124 text))),
+        no_later (time_in parts.start) (time_in parts.stop) span,
         pairs_read (texts_in parts.keys parts.values) (zip_bare (keys_in parts.keys) (values_in parts.keys parts.values) (values_bare parts.keys parts.values (unmarked text parts texts feed is))),
+        unbarred text parts is,
       )
 
   judged_right : (text : List ℕ) (parts : Parts) (o : Option Fault) → has_feed text ≡ false → not (is_text text) ≡ false → parts_of (fields_of 124 text) ≡ Some parts → first_fault (faults_in parts) ≡ o
       → IsRightLine (judged parts o)
   unfolding IsRightLine
-  judged_right text parts None feed texts is e = let rows = none_first (faults_in parts) e in accepted_right text parts feed texts is rows.1.0
+  judged_right text parts None feed texts is e = let rows = none_first (faults_in parts) e in accepted_right text parts feed texts is rows.1.0 rows.1.1.0
   judged_right text parts (Some fault) feed texts is e = tt
 
   formed_right : (text : List ℕ) (parts : Option Parts) → has_feed text ≡ false → not (is_text text) ≡ false → parts_of (fields_of 124 text) ≡ parts → IsRightLine (formed parts)
@@ -159,17 +146,13 @@ module _ (known : AreSpelled) where
           → All IsProperEvent (judged_event (record { number = number; name = name; start = start; stop = stop; pairs = pairs }) o (λ kept. trace_over (number + 1) kept ending lines)).events
       at None later =
           All-cons IsProperEvent (record { number = number; name = name; start = start; stop = stop; pairs = pairs }) (trace_over (number + 1) (Some stop) ending lines).events
-          (record { start = h.0.0; stop = h.0.1; within = h.0.2; pairs = All-from_recursion (λ (pair : List ℕ × Value). IsProperValue pair.1) pairs h.0.3 })
+          (record { name = h.0.4; start = h.0.0; stop = h.0.1; within = h.0.2; pairs = All-from_recursion (λ (pair : List ℕ × Value). IsProperValue pair.1) pairs h.0.3 })
           later
       at (Some refusal) later = All-nil IsProperEvent
 
   -- the pieces of a cut have no LF
   parts_without : (bytes : List ℕ) → list_all (λ piece. not (has_feed piece)) (cut_lemmas.parts_of bytes) ≡ true
-  parts_without bytes = parts_hold_none (λ byte. eqb byte 10) (λ byte. false) (λ byte. eqb byte 10) (λ byte mark none. mark) bytes (none_any bytes)
-    where
-      none_any : (bytes : List ℕ) → list_any (λ byte. false) bytes ≡ false
-      none_any [] = refl
-      none_any (byte ∷ bytes) = none_any bytes
+  parts_without = parts_lack_mark (λ byte. eqb byte 10)
 
   last_kept : (test counts : List ℕ → Bool) (parts : List (List ℕ)) → list_all test parts ≡ true → list_all test (with_last counts parts) ≡ true
   unfolding with_last

@@ -11,5 +11,6 @@ pub mod CutLemmas
 pub mod CutLineLemmas
 pub mod EndedLineLemmas
 pub mod TraceLemmas
+pub mod StandingLemmas
 pub mod EventLemmas
 pub mod Public

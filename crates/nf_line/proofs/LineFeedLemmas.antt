@@ -1,11 +1,27 @@
 -- The first LF of a piece.
-use Rattle.std.proofs.Common.{◌≡◌, ℕ, zero, suc, ◌<◌, ◌≤◌, Bool, true, false, cond, List, [], ◌∷◌, length, get_or, refl, arith, Some, None, sym, ◌∙◌, ⊎_elim}
+use Rattle.std.proofs.Common.{◌≡◌, ℕ, zero, suc, ◌<◌, ◌≤◌, Bool, true, false, cond, ltb, List, [], ◌∷◌, length, get_or, refl, ap, arith, Option, Some, None, sym, ◌∙◌, ⊎_elim}
 use Rattle.std.specs.List.{list_any, position, position_or_len, before_first}
-use Rattle.std.proofs.lemmas.Bool.{or_left, or_right, ltb-false, cases_lt, false≢true}
+use Rattle.std.proofs.lemmas.Bool.{or_left, or_right, ltb-false, lt-ltb, le-ltb, cases_lt, false≢true, false_from_ne_true}
 use Rattle.std.proofs.lemmas.List.Folds.{list_any_none}
 use Rattle.std.proofs.lemmas.List.Quantifiers.{position-Some}
-use Rattle.std.proofs.lemmas.List.Sums.{fails_before_first, passes_at_first}
+use Rattle.std.proofs.lemmas.List.Sums.{fails_before_first, passes_at_first, position_or_len_is}
 use Rattle.std.proofs.lemmas.List.{get_or-take, length-take}
+use Rattle.memchr.specs.Find.{IsFirstByte}
+
+-- the first byte that passes a test, as a search finds it
+module _ (test : ℕ → Bool) (bytes : List ℕ) where
+  abbrev placed : ℕ → Option ℕ
+  placed n = cond (ltb n (length bytes)) (Some n) None
+
+  pub first_place : (found : Option ℕ) → IsFirstByte test bytes found → found ≡ position test bytes
+  first_place None h =
+      let is = position_or_len_is test bytes (length bytes) 0 (omega arith) (λ k below. false_from_ne_true _ (h k (omega arith) below)) (λ below. absurd (omega arith)) in
+      let past = le-ltb (length bytes) (length bytes) (omega arith) in
+      sym (ap placed is ∙ rw past refl)
+  first_place (Some n) h =
+      let is = position_or_len_is test bytes n 0 (omega (arith, h.0.high)) (λ k below. false_from_ne_true _ (h.0.before k (omega arith) below)) (λ below. h.1) in
+      let within = lt-ltb n (length bytes) h.0.high in
+      sym (ap placed is ∙ rw within refl)
 
 module _ {X : Type 0} (p : X → Bool) where
   -- an element that passes is one of the list

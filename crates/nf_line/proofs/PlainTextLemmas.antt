@@ -1,5 +1,5 @@
 -- The values of a line hold no separators.
-use Rattle.std.proofs.Common.{◌≡◌, ℕ, Bool, true, false, cond, not, ◌&&◌, ◌||◌, eqb, List, [], ◌∷◌, reverse, refl, subst, Option, Some, None, bytes_eq}
+use Rattle.std.proofs.Common.{◌≡◌, ℕ, Bool, true, false, cond, not, ◌&&◌, ◌||◌, eqb, List, [], ◌∷◌, ◌++◌, reverse, refl, subst, Option, Some, None, bytes_eq}
 use Rattle.std.specs.List.{list_all, list_any, slice_split, onto_first, zip}
 use Rattle.std.specs.Map.{lookup}
 use Rattle.std.specs.Option.{IfSome}
@@ -8,7 +8,7 @@ use Rattle.std.proofs.lemmas.Bool.{and_parts, and_from, or_parts, or_from, not-t
 use Rattle.nf_text.specs.Fields.{fields_of}
 use Rattle.nf_text.specs.Value.{is_separator}
 use Rattle.nf_line.specs.Lines.{is_empty}
-use Rattle.nf_line.specs.Line.{Parts, at_time, parts_of, is_text, keys_in, values_in, texts_in}
+use Rattle.nf_line.specs.Line.{Parts, holds_bar, parts_of, is_text, keys_in, values_in, texts_in}
 use Rattle.nf_line.specs.Cutting.{has_feed}
 use Rattle.nf_line.specs.inner.Plain.{holds_mark}
 use Rattle.nf_line.proofs.LastPairLemmas.{last_looked_up, last_holds}
@@ -33,6 +33,14 @@ module _ (mark some both : ℕ → Bool) (covers : (byte : ℕ) → mark byte �
       here true e m later = later
       here false e m later = none_more byte (slice_split mark text) (covers byte e m) later
 
+nothing_in : (text : List ℕ) → list_any (λ byte. false) text ≡ false
+nothing_in [] = refl
+nothing_in (byte ∷ text) = nothing_in text
+
+-- no part between marks holds a mark
+pub parts_lack_mark : (mark : ℕ → Bool) (text : List ℕ) → list_all (λ part. not (list_any mark part)) (slice_split mark text) ≡ true
+parts_lack_mark mark text = parts_hold_none mark (λ byte. false) mark (λ byte a b. a) text (nothing_in text)
+
 either_none : (one other : ℕ → Bool) (text : List ℕ) → list_any one text ≡ false → list_any other text ≡ false → list_any (λ byte. one byte || other byte) text ≡ false
 either_none one other [] a b = refl
 either_none one other (byte ∷ text) a b =
@@ -42,6 +50,11 @@ either_none one other (byte ∷ text) a b =
 
 marks_covered : (byte : ℕ) → eqb byte 124 ≡ false → (eqb byte 13 || eqb byte 10) ≡ false → (eqb byte 124 || eqb byte 13 || eqb byte 10) ≡ false
 marks_covered byte a b = let sides = or_parts (eqb byte 13) (eqb byte 10) b in or_from _ _ (or_from _ _ a sides.0) sides.1
+
+-- a test that all of some texts pass is passed by the last one
+pub all_last : (test : List ℕ → Bool) (pieces : List (List ℕ)) (kept : List ℕ) → list_all test (pieces ++ kept ∷ []) ≡ true → test kept ≡ true
+all_last test [] kept h = (and_parts (test kept) true h).0
+all_last test (piece ∷ pieces) kept h = all_last test pieces kept (and_parts (test piece) (list_all test (pieces ++ kept ∷ [])) h).1
 
 -- the values' field of fields that hold no mark holds none
 abbrev IsUnmarked : Option Parts → Type 0
@@ -53,10 +66,9 @@ unmarked_in [] h = tt
 unmarked_in (a ∷ []) h = tt
 unmarked_in (a ∷ b ∷ []) h = refl
 unmarked_in (a ∷ b ∷ c ∷ []) h = tt
-unmarked_in (a ∷ b ∷ c ∷ d ∷ []) h =
-    let rest = λ (part : List ℕ) (parts : List (List ℕ)) (all : list_all (λ part. not (holds_mark part)) (part ∷ parts) ≡ true). and_parts (not (holds_mark part)) (list_all (λ part. not (holds_mark part)) parts) all in
-    not-true _ (rest d [] (rest c (d ∷ []) (rest b (c ∷ d ∷ []) (rest a (b ∷ c ∷ d ∷ []) h).1).1).1).0
-unmarked_in (a ∷ b ∷ c ∷ d ∷ e ∷ fields) h = tt
+unmarked_in (a ∷ b ∷ c ∷ d ∷ []) h = not-true _ (all_last (λ part. not (holds_mark part)) (a ∷ b ∷ c ∷ []) d h)
+unmarked_in (a ∷ b ∷ c ∷ d ∷ e ∷ []) h = not-true _ (all_last (λ part. not (holds_mark part)) (a ∷ b ∷ c ∷ d ∷ []) e h)
+unmarked_in (a ∷ b ∷ c ∷ d ∷ e ∷ f ∷ fields) h = tt
 
 -- the values of a line that is text and has no LF hold no mark
 pub unmarked : (line : List ℕ) (parts : Parts) → not (is_text line) ≡ false → has_feed line ≡ false → parts_of (fields_of 124 line) ≡ Some parts → holds_mark parts.values ≡ false
@@ -66,8 +78,34 @@ unmarked line parts text feed is =
     let all = parts_hold_none (λ byte. eqb byte 124) (λ byte. eqb byte 13 || eqb byte 10) (λ byte. eqb byte 124 || eqb byte 13 || eqb byte 10) marks_covered line none in
     subst IsUnmarked is (unmarked_in (fields_of 124 line) all)
 
-pub values_unmarked : (line name time keys values : List ℕ) → not (is_text line) ≡ false → has_feed line ≡ false → parts_of (fields_of 124 line) ≡ Some (at_time name time keys values) → holds_mark values ≡ false
-values_unmarked line name time keys values = unmarked line (at_time name time keys values)
+pub values_unmarked : (line name start stop keys values : List ℕ) → not (is_text line) ≡ false → has_feed line ≡ false
+    → parts_of (fields_of 124 line) ≡ Some (record { name = name; start = start; stop = stop; keys = keys; values = values }) → holds_mark values ≡ false
+values_unmarked line name start stop keys values = unmarked line (record { name = name; start = start; stop = stop; keys = keys; values = values })
+
+-- no field of a line holds a bar, so its name has none
+IsUnbarred : Option Parts → Type 0
+IsUnbarred None = Unit {0}
+IsUnbarred (Some parts) = holds_bar parts.name ≡ false
+
+first_unbarred : (name : List ℕ) (fields : List (List ℕ)) → list_all (λ part. not (holds_bar part)) (name ∷ fields) ≡ true → holds_bar name ≡ false
+first_unbarred name fields h = not-true _ (and_parts (not (holds_bar name)) (list_all (λ part. not (holds_bar part)) fields) h).0
+
+unbarred_in : (fields : List (List ℕ)) → list_all (λ part. not (holds_bar part)) fields ≡ true → IsUnbarred (parts_of fields)
+unfolding IsUnbarred
+unbarred_in [] h = tt
+unbarred_in (a ∷ []) h = tt
+unbarred_in (a ∷ b ∷ []) h = first_unbarred a (b ∷ []) h
+unbarred_in (a ∷ b ∷ c ∷ []) h = tt
+unbarred_in (a ∷ b ∷ c ∷ d ∷ []) h = first_unbarred a (b ∷ c ∷ d ∷ []) h
+unbarred_in (a ∷ b ∷ c ∷ d ∷ e ∷ []) h = first_unbarred a (b ∷ c ∷ d ∷ e ∷ []) h
+unbarred_in (a ∷ b ∷ c ∷ d ∷ e ∷ f ∷ fields) h = tt
+
+pub unbarred : (line : List ℕ) (parts : Parts) → parts_of (fields_of 124 line) ≡ Some parts → holds_bar parts.name ≡ false
+unfolding IsUnbarred
+unbarred line parts is = subst IsUnbarred is (unbarred_in (fields_of 124 line) (parts_lack_mark (λ byte. eqb byte 124) line))
+
+pub name_unbarred : (line name start stop keys values : List ℕ) → parts_of (fields_of 124 line) ≡ Some (record { name = name; start = start; stop = stop; keys = keys; values = values }) → holds_bar name ≡ false
+name_unbarred line name start stop keys values = unbarred line (record { name = name; start = start; stop = stop; keys = keys; values = values })
 
 separators_covered : (byte : ℕ) → eqb byte 59 ≡ false → (eqb byte 124 || eqb byte 13 || eqb byte 10) ≡ false → is_separator byte ≡ false
 separators_covered byte a b =

@@ -2,6 +2,7 @@ pub mod Lines
 pub mod Line
 pub mod Rows
 pub mod Trace
+pub mod Standing
 pub mod ProperEvents
 pub mod Cutting
 pub mod Raw

@@ -1,5 +1,5 @@
 -- One line of a trace: it is empty, accepted, or has a fault of the table.
-use Rattle.std.specs.Prelude.{ℕ, ◌==◌, Bool, not, ◌&&◌, ℤ, pos, List, [], ◌∷◌, length, map, Option, Some, None, if◌then◌else◌}
+use Rattle.std.specs.Prelude.{ℕ, ◌==◌, Bool, not, ◌&&◌, ℤ, pos, int_lt, List, [], ◌∷◌, length, map, Option, Some, None, if◌then◌else◌}
 use Rattle.std.specs.List.{list_any, zip}
 use Rattle.std.specs.Str.{is_utf8}
 use Rattle.std.specs.Str.Parse.{digits_value}
@@ -16,12 +16,17 @@ pub data Fault : Type 0 where
   NotText : Fault
   Fields : Fault
   Time : Fault
+  Span : Fault
   Key : Fault
   Counts : Fault
 
 -- a line is text where it is UTF-8 and holds no CR
 abbrev pub is_text : List ℕ → Bool
 is_text line = is_utf8 line && not (list_any (λ byte. byte == 13) line)
+
+-- whether a text holds a `|`, which stands between the fields of a line
+abbrev pub holds_bar : List ℕ → Bool
+holds_bar text = list_any (λ byte. byte == 124) text
 
 -- the texts of what a line says: its name, its begin and its end, and the fields of its keys and of its values
 pub record Parts : Type 0 where
@@ -35,10 +40,12 @@ pub record Parts : Type 0 where
 abbrev pub at_time : (name time keys values : List ℕ) → Parts
 at_time name time keys values = record { name = name; start = time; stop = time; keys = keys; values = values }
 
--- the table of forms: a line of two fields has a name and a time, and one of four has keys and values besides. A line of any other number of fields is in no form
+-- the table of forms: a line of two fields has a name and a time, one of four has keys and values besides, and one of five has a begin and an end in place of the time. A line of any other number of fields is in no form
 abbrev pub parts_of : List (List ℕ) → Option Parts
 parts_of (name ∷ time ∷ []) = Some (at_time name time [] [])
 parts_of (name ∷ time ∷ keys ∷ values ∷ []) = Some (at_time name time keys values)
+parts_of (name ∷ start ∷ stop ∷ keys ∷ values ∷ []) =
+    Some (record { name = name; start = start; stop = stop; keys = keys; values = values })
 parts_of fields = None
 
 -- the keys of a keys' field stand between `;`; an empty field has none
@@ -68,11 +75,16 @@ abbrev pub texts_of : Option Parts → List (List ℕ × List ℕ)
 texts_of None = []
 texts_of (Some parts) = texts_in parts.keys parts.values
 
+-- the time that a text of digits spells: its decimal value
+abbrev pub time_in : List ℕ → ℤ
+time_in text = pos (digits_value 10 text)
+
 -- the table of a line in some form: each fault, and whether the line has it
 abbrev pub faults_in : Parts → List (Fault × Bool)
 faults_in parts =
     (Fields, is_empty parts.name)
     ∷ (Time, not (is_time parts.start && is_time parts.stop))
+    ∷ (Span, int_lt (time_in parts.stop) (time_in parts.start))
     ∷ (Key, list_any is_empty (keys_in parts.keys))
     ∷ (Counts, not (length (values_in parts.keys parts.values) == length (keys_in parts.keys)))
     ∷ []
@@ -88,13 +100,10 @@ pub data Line : Type 0 where
   Accepted : (name : List ℕ) → (start stop : ℤ) → (pairs : List (List ℕ × value.Value)) → Line
   Faulty : Fault → Line
 
--- the time that a text of digits spells: its decimal value
-abbrev pub time_in : List ℕ → ℤ
-time_in text = pos (digits_value 10 text)
-
 -- what an accepted line says: its name, its begin and its end, and its keys with their values
 abbrev pub accepted : Parts → Line
-accepted parts = Accepted parts.name (time_in parts.start) (time_in parts.stop) (map spelled (texts_in parts.keys parts.values))
+accepted parts =
+    Accepted parts.name (time_in parts.start) (time_in parts.stop) (map spelled (texts_in parts.keys parts.values))
 
 -- a line in some form by its first fault, where it has one
 abbrev pub judged : Parts → Option Fault → Line
@@ -108,7 +117,10 @@ formed (Some parts) = judged parts (first_fault (faults_in parts))
 
 -- a line of at most 65,536 bytes, without its CR: it is empty, or isn't text, or is what its parts make it
 unfoldable pub line_within : List ℕ → Line
-line_within line = if is_empty line then Empty else if is_text line then formed (parts_of (fields_of 124 line)) else Faulty NotText
+line_within line =
+    if is_empty line then Empty
+    else if is_text line then formed (parts_of (fields_of 124 line))
+    else Faulty NotText
 
 -- a line by its whole piece, all bytes before its LF: it is too long where it has more than 65,536 bytes, a CR at its end too; else it is what it is without one CR at its end
 unfoldable pub line : List ℕ → Line

@@ -1,5 +1,5 @@
 -- Bytes cut into lines.
-use Rattle.std.specs.Prelude.{ℕ, ◌==◌, nat_lt, Bool, not, List, [], ◌∷◌, length, if◌then◌else◌}
+use Rattle.std.specs.Prelude.{ℕ, ◌==◌, nat_lt, Bool, not, List, [], ◌∷◌, length, count_by, if◌then◌else◌}
 use Rattle.nf_text.specs.Fields.{fields_of}
 use Rattle.nf_line.specs.declared.limits.TheConstants.{LINE_LIMIT}
 
@@ -28,6 +28,20 @@ is_too_long piece = nat_lt line_limit (length piece)
 -- the pieces of bytes that go on where they are broken off: what stands behind the last LF is no piece, except that it is one where it has more bytes than a line may have
 abbrev pub cut_off : List ℕ → List (List ℕ)
 cut_off bytes = with_last is_too_long (fields_of 10 bytes)
+
+-- how many lines ended in some bytes: as many as they have LF bytes
+abbrev pub ended_lines : List ℕ → ℕ
+ended_lines bytes = count_by (λ byte. byte == 10) bytes
+
+-- the last of some pieces
+abbrev pub last_of : List (List ℕ) → List ℕ
+last_of [] = []
+last_of (piece ∷ []) = piece
+last_of (piece ∷ next ∷ pieces) = last_of (next ∷ pieces)
+
+-- what stands behind the last LF of some bytes, or all of them where they have none
+abbrev pub unended : List ℕ → List ℕ
+unended bytes = last_of (fields_of 10 bytes)
 
 -- a piece without one CR at its end
 unfoldable pub without_return : List ℕ → List ℕ

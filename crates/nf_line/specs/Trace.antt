@@ -1,5 +1,5 @@
 -- A trace: its accepted lines up to the first refused one, and how it ends.
-use Rattle.std.specs.Prelude.{ℕ, ◌+◌, ℤ, int_lt, nat_le, List, [], ◌∷◌, map, take, length, Option, Some, None, if◌then◌else◌}
+use Rattle.std.specs.Prelude.{ℕ, ◌+◌, ℤ, int_lt, nat_le, List, [], ◌∷◌, ◌++◌, map, take, length, Option, Some, None, if◌then◌else◌}
 use Rattle.nf_core.specs.declared.values.Value as value
 use Rattle.nf_line.specs.Lines.{cut, cut_off}
 use Rattle.nf_line.specs.declared.limits.TheConstants.{TRACE_LIMIT}
@@ -41,6 +41,15 @@ fallen (Some kept) stop = if int_lt stop kept then Some (Falls kept stop) else N
 abbrev pub after_event : Event → Trace → Trace
 after_event event trace = record { events = event ∷ trace.events; ending = trace.ending }
 
+-- some events before those of a trace
+abbrev pub after_events : List Event → Trace → Trace
+after_events events trace = record { events = events ++ trace.events; ending = trace.ending }
+
+-- the end of the last of some events, or what it was before where there are none
+abbrev pub last_end : Option ℤ → List Event → Option ℤ
+last_end last [] = last
+last_end last (event ∷ events) = last_end (Some event.stop) events
+
 -- an accepted line, unless it is refused; what follows reads on after its end
 abbrev pub judged_event : Event → Option Refusal → (Option ℤ → Trace) → Trace
 judged_event event None rest = after_event event (rest (Some event.stop))
@@ -51,12 +60,14 @@ abbrev pub trace_at : ℕ → Option ℤ → Line → (Option ℤ → Trace) →
 trace_at number last Empty rest = rest last
 trace_at number last (Faulty fault) rest = refused number (InNoForm fault)
 trace_at number last (Accepted name start stop pairs) rest =
-    judged_event (record { number = number; name = name; start = start; stop = stop; pairs = pairs }) (fallen last stop) rest
+    let event : Event = record { number = number; name = name; start = start; stop = stop; pairs = pairs } in
+    judged_event event (fallen last stop) rest
 
 -- the trace of some lines in order, of which the first has this number, after an accepted line with this end; it ends so where no line is refused
 unfoldable pub trace_over : ℕ → Option ℤ → Ending → List Line → Trace
 trace_over number last ending [] = record { events = []; ending = ending }
-trace_over number last ending (line ∷ lines) = trace_at number last line (λ kept. trace_over (number + 1) kept ending lines)
+trace_over number last ending (line ∷ lines) =
+    trace_at number last line (λ kept. trace_over (number + 1) kept ending lines)
 
 -- the trace of some pieces in order, each of which is a line
 abbrev pub trace_from : ℕ → Option ℤ → Ending → List (List ℕ) → Trace

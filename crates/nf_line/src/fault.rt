@@ -9,13 +9,17 @@ pub enum LineFault {
     /// The line isn't UTF-8, or holds a CR.
     #[error("not text")]
     NotText,
-    /// Between `|` the line has neither 2 nor 4 fields, or its first field is empty.
+    /// Between `|` the line has neither 2, 4 nor 5 fields, or its first field is empty.
     #[error("fields")]
     Fields,
-    /// The second field isn't 1 to 19 digits with a value of at most 2^63 - 1.
+    /// The second field, or the third one of five, isn't 1 to 19 digits with a value of at most
+    /// 2^63 - 1.
     #[error("time")]
     Time,
-    /// The third field isn't empty and has, between `;`, an empty key.
+    /// The line has five fields, and the second is greater than the third: it ends before it begins.
+    #[error("span")]
+    Span,
+    /// The keys' field, the last but one, isn't empty and has, between `;`, an empty key.
     #[error("key")]
     Key,
     /// There are more or fewer values than keys.

@@ -1,10 +1,11 @@
 //! What holds of the definitions themselves. Each function does nothing, and its contract is the law.
 
-ghost use Rattle.std.specs.Prelude.{◌≡◌, ◌≢◌, ℕ, ◌<◌, ◌≤◌, false, true, List, [], ◌∷◌, ◌++◌, length, map, take, fold, option_to_list};
-ghost use Rattle.nf_line.specs.Lines.{cut, cut_off, line_limit, without_return};
+ghost use Rattle.std.specs.Prelude.{◌≡◌, ◌≢◌, ℕ, ◌+◌, ◌-◌, ◌^◌, ◌<◌, ◌≤◌, false, true, List, [], ◌∷◌, ◌++◌, length, map, take, fold, None, option_to_list};
+ghost use Rattle.nf_line.specs.Lines.{cut, cut_off, line_limit, ended_lines, unended, without_return};
 ghost use Rattle.nf_line.specs.Line.{Line, line, line_within, Faulty, Long};
 ghost use Rattle.nf_line.specs.Cutting.{Content, Run, start, after_call, is_long, used_of, line_of, content_after, last_line, IsContent, HasCut, IsLongBehind};
-ghost use Rattle.nf_line.specs.Trace.{Event, Refusal, Done, Refused, TooLong, trace, trace_so_far, trace_limit};
+ghost use Rattle.nf_line.specs.Standing.{standing, read_on};
+ghost use Rattle.nf_line.specs.Trace.{Event, Refusal, Ending, Done, Refused, TooLong, after_events, trace_over, trace, trace_so_far, trace_limit};
 
 /// Whatever the pieces are, the lines that are handed out are those of the cut of all bytes that
 /// were used, one after the other, without one CR at their end.
@@ -90,4 +91,46 @@ pub fn what_is_known_of_a_trace_stays()
     ensures shorter { (bytes more : List ℕ)
         → (trace_so_far (bytes ++ more)).ending ≡ Done → (trace_so_far bytes).ending ≡ Done }
     ensures never_too_long { (bytes : List ℕ) → (trace_so_far bytes).ending ≢ TooLong }
+{}
+
+/// Where a reader stands after some bytes of a trace follows from the bytes alone (`standing` of
+/// specs/Standing): how many lines ended, what stands behind the last LF, and the end of the last
+/// accepted line.
+///
+/// Where those bytes show no refusal, the trace has their accepted lines, and then what is read on from
+/// there: of all bytes (`whole`), of bytes that go on (`so_far`), and where the trace is too long
+/// (`too_long`). Of lines that were cut so far as many ended as were handed out, and what is kept stands
+/// behind the last LF (`cut`). The lines handed out are read on likewise (`lines`). What stands behind the
+/// last LF can be kept (`within`).
+pub fn traces_go_on_from_where_they_stand()
+    ensures whole { (bytes more : List ℕ)
+        → length (bytes ++ more) < trace_limit → (trace_so_far bytes).ending ≡ Done
+        → trace (bytes ++ more) ≡ after_events (trace_so_far bytes).events
+        (read_on (standing bytes) Done (cut (unended bytes ++ more))) }
+    ensures so_far { (bytes more : List ℕ) → (trace_so_far bytes).ending ≡ Done
+        → trace_so_far (bytes ++ more) ≡ after_events (trace_so_far bytes).events
+        (read_on (standing bytes) Done (cut_off (unended bytes ++ more))) }
+    ensures too_long { (bytes more : List ℕ) → length bytes ≤ trace_limit
+        → trace_limit ≤ length (bytes ++ more) → (trace_so_far bytes).ending ≡ Done
+        → let counted = take (trace_limit - length bytes) more in
+        trace (bytes ++ more) ≡ after_events (trace_so_far bytes).events
+        (read_on (standing bytes) TooLong (cut_off (unended bytes ++ counted))) }
+    ensures cut { (bytes : List ℕ) (lines : List (List ℕ)) (kept : List ℕ)
+        → HasCut bytes lines kept
+        → (ended_lines bytes ≡ length lines) × (unended bytes ≡ kept) }
+    ensures lines { (bytes : List ℕ) (lines : List (List ℕ)) (kept : List ℕ)
+        → HasCut bytes lines kept → length kept ≤ line_limit
+        → (trace_so_far bytes).ending ≡ Done → (ending : Ending) (rest : List Line)
+        → let stand = standing bytes in
+        trace_over 1 None ending (map line_within lines ++ rest) ≡ after_events
+        (trace_so_far bytes).events (trace_over (stand.ended + 1) stand.last ending rest) }
+    ensures within { (bytes : List ℕ) → (trace_so_far bytes).ending ≡ Done
+        → length (unended bytes) ≤ line_limit }
+{}
+
+/// The limits in figures: a line has at most 65,536 bytes before its LF, and a trace fewer than 2^63 - 1.
+#[tactic(auto, unfolding(crate::specs::Trace::trace_limit))]
+pub fn limits_in_figures()
+    ensures line { line_limit ≡ 65536 }
+    ensures trace { trace_limit ≡ 2 ^ 63 - 1 }
 {}

@@ -1,14 +1,15 @@
 //! Cutting bytes that come in pieces into lines.
 
-ghost use Rattle.std.specs.Prelude.{◌≡◌, ◌≤◌, ◌↔◌, [], ◌++◌, length, false, IsTrue, IfOk, IfErr, IfSome, OnOk};
+ghost use Rattle.std.specs.Prelude.{◌≡◌, ◌≢◌, ◌≤◌, ◌↔◌, [], ◌++◌, length, false, true, IsTrue, IfOk, IfErr, IfSome, OnOk, OnErr};
 ghost use Rattle.std.specs.Option.{option_copied};
 ghost use Rattle.std.specs.Borrow.{sem};
 ghost use Rattle.std.specs.Io.BufRead.{Rests};
 ghost use Rattle.nf_line.specs.Lines.{without_return};
-ghost use Rattle.nf_line.specs.Cutting.{nothing_kept, has_feed, goes_beyond, is_long, last_line, CanBeRead, IsContent};
+ghost use Rattle.nf_line.specs.Cutting.{nothing_kept, after_long, has_feed, goes_beyond, is_long, last_line, CanBeRead, IsContent};
 ghost use Rattle.nf_line.specs.Calls.{Takes, content_left};
 ghost use Rattle.nf_line.specs.contracts.liner.Liner.{the_row};
 
+use crate::carried::Carried;
 use crate::fault::CutFault;
 use crate::limits::LINE_LIMIT;
 use crate::pieces::{cut_piece, without_return};
@@ -17,11 +18,11 @@ use std::alloc::Global;
 use std::marker::Model;
 
 /// Cuts bytes that come in pieces into lines. Contracts see what it keeps: the bytes since the last
-/// line, and whether a line was too long (`Content` of specs/Cutting).
+/// line, and whether a line was too long (`Content` of specs/Cutting). Only a line that is cut between
+/// pieces is kept, in one buffer.
 #[derive(Debug, Drop)]
 pub struct Liner {
-    kept: Vec<u8>,
-    handed_out: Vec<u8>,
+    carried: Carried,
     was_long: bool,
 }
 
@@ -30,9 +31,12 @@ impl Model for Liner {
 
     ghost Value = { cutting.Content };
 
-    ghost view = { λ l. record { kept = l.kept.items; was_long = l.was_long } };
+    ghost view = { λ l. record { kept = l.carried; was_long = l.was_long } };
 
-    ghost invariant = { λ l. cutting.IsContent (record { kept = l.kept.items; was_long = l.was_long }) };
+    ghost invariant = { λ l. cutting.IsContent (record {
+      kept = l.carried;
+      was_long = l.was_long;
+    }) };
 }
 
 impl Liner {
@@ -41,30 +45,25 @@ impl Liner {
         ensures { result ≡ nothing_kept }
     {
         Liner {
-            kept: Vec::new(alloc),
-            handed_out: Vec::new(alloc),
+            carried: Carried::new(alloc),
             was_long: false,
         }
-    }
-
-    /// What is kept is no longer than a line may be, and no LF is among it. Does nothing: a proof
-    /// learns it.
-    pub fn keeps_a_line(&self)
-        ensures { IsContent self.now }
-    {
-        let _kept = &self.kept;
     }
 
     /// Takes a piece up to its first LF and with it, or the whole piece where it has none. The line
     /// is None exactly where no LF stands in the piece; then the whole piece is kept. Otherwise the
     /// kept bytes and the piece up to its first LF are handed out as one line, without the LF and
-    /// without one CR before it, and nothing is kept.
+    /// without one CR before it, and nothing is kept. Where nothing was kept before, that line is lent
+    /// by the piece, and no memory is taken.
     ///
     /// `Long` comes exactly where the kept bytes and the piece up to its first LF or its end are more
     /// than 65,536 bytes, or `Long` came before; then nothing is kept, and each later call answers it
-    /// too. `NoMemory` leaves all as it was.
+    /// too. `NoMemory` leaves all as it was, and never comes where nothing was kept and the piece has
+    /// an LF.
     pub fn next_line<'a>(&'a mut self, piece: &'a [u8]) -> Result<Taken<'a>, CutFault>
         ensures long { (result ≡ Err CutFault.Long) ↔ IsTrue (is_long self.old piece.now) }
+        ensures lent { self.old.kept ≡ [] → has_feed piece.now ≡ true
+            → result ≢ Err CutFault.NoMemory }
         ensures taken { IfOk result (Takes self.old piece.now) }
         ensures within { IfOk result (λ taken. taken.used ≤ length piece.now) }
         ensures line { IfOk result (λ taken. IfSome taken.line (λ line. CanBeRead line.now)) }
@@ -73,15 +72,24 @@ impl Liner {
             after ≡ content_left self.old piece.now result)) }
     {
         let cut = cut_piece(piece);
-        self.keep(cut.before)?;
         if !cut.has_feed {
+            self.keep(cut.before)?;
             return Ok(Taken {
                 used: piece.len(),
                 line: None,
             });
         }
+        let used = cut.before.len() + 1;
+        if self.carried.len() == 0 {
+            let line = self.lend(cut.before)?;
+            return Ok(Taken {
+                used,
+                line: Some(line),
+            });
+        }
+        self.keep(cut.before)?;
         Ok(Taken {
-            used: cut.before.len() + 1,
+            used,
             line: Some(self.hand_out()),
         })
     }
@@ -95,10 +103,28 @@ impl Liner {
         ensures* after { sem 𝓛 (Rests the_row self.entry (λ after.
             after ≡ record self.old { kept = [] })) }
     {
-        if self.kept.is_empty() {
+        if self.carried.len() == 0 {
             return None;
         }
         Some(self.hand_out())
+    }
+
+    // The line that bytes without LF are where nothing is kept, without one CR at their end. They lend it.
+    #[tactic(auto, using(crate::proofs::CarriageReturnLemmas::can_be_read))]
+    fn lend<'a>(&mut self, bytes: &'a [u8]) -> Result<&'a [u8], CutFault>
+        requires none { self.old.kept ≡ [] }
+        requires no_feed { has_feed bytes.now ≡ false }
+        ensures long { (result ≡ Err CutFault.Long)
+            ↔ IsTrue (goes_beyond self.old (length bytes.now)) }
+        ensures memory { result ≢ Err CutFault.NoMemory }
+        ensures line { IfOk result (λ line. line.now ≡ without_return bytes.now) }
+        ensures read { IfOk result (λ line. CanBeRead line.now) }
+        ensures ok { OnOk result (self.new ≡ self.old) }
+        ensures err { OnErr result (self.new ≡ after_long) }
+        ensures valid { IsContent self.old }
+    {
+        self.measure(bytes)?;
+        Ok(without_return(bytes))
     }
 
     // Keeps more bytes, none of which is LF. Where they are too many nothing is kept from then on.
@@ -111,15 +137,28 @@ impl Liner {
         ensures err { IfErr result (λ fault. self.new ≡ content_left self.old [] (Err fault)) }
         ensures valid { IsContent self.old }
     {
-        if self.was_long || self.kept.len() + bytes.len() > LINE_LIMIT {
-            self.kept.clear();
-            self.was_long = true;
-            return Err(CutFault::Long);
-        }
-        match self.kept.extend_from_slice(bytes) {
+        self.measure(bytes)?;
+        match self.carried.push(bytes) {
             Ok(()) => Ok(()),
             Err(_) => Err(CutFault::NoMemory),
         }
+    }
+
+    // Tests that the line isn't too long with more bytes. Where it is nothing is kept from then on.
+    fn measure(&mut self, bytes: &[u8]) -> Result<(), CutFault>
+        ensures long { (result ≡ Err CutFault.Long)
+            ↔ IsTrue (goes_beyond self.old (length bytes.now)) }
+        ensures memory { result ≢ Err CutFault.NoMemory }
+        ensures ok { OnOk result (self.new ≡ self.old) }
+        ensures err { OnErr result (self.new ≡ after_long) }
+        ensures valid { IsContent self.old }
+    {
+        if self.was_long || self.carried.len() + bytes.len() > LINE_LIMIT {
+            self.carried.clear();
+            self.was_long = true;
+            return Err(CutFault::Long);
+        }
+        Ok(())
     }
 
     // Hands out the kept bytes without one CR at their end.
@@ -130,8 +169,6 @@ impl Liner {
         ensures* after { sem 𝓛 (Rests the_row self.entry (λ after.
             after ≡ record self.old { kept = [] })) }
     {
-        std::mem::swap(&mut self.kept, &mut self.handed_out);
-        self.kept.clear();
-        without_return(&self.handed_out)
+        without_return(self.carried.hand_out())
     }
 }

@@ -1,17 +1,17 @@
 //! Reading one line.
 
-ghost use Rattle.std.specs.Prelude.{◌≡◌, ◌≢◌, ◌<◌, ◌≤ℤ◌, [], length, map, reverse, bytes_eq, All, IfOk};
+ghost use Rattle.std.specs.Prelude.{◌≡◌, ◌≢◌, ◌<◌, ◌≤ℤ◌, false, [], length, map, reverse, bytes_eq, All, IfOk};
 ghost use Rattle.std.specs.Map.{lookup};
 ghost use Rattle.nf_core.specs.Plan.{keys_of};
 ghost use Rattle.nf_core.specs.Rows.{IsPlainCell};
 ghost use Rattle.nf_text.specs.Fields.{fields_of};
-ghost use Rattle.nf_line.specs.Line.{line_within, parts_of, texts_of, spelled};
+ghost use Rattle.nf_line.specs.Line.{holds_bar, line_within, parts_of, texts_of, spelled};
 ghost use Rattle.nf_line.specs.Cutting.{CanBeRead};
 ghost use Rattle.nf_line.specs.Rows.{row_of};
 ghost use Rattle.nf_line.specs.Readings.{line_read};
 
 use crate::fault::LineFault;
-use crate::fields::{read_fields, read_line_time, read_text, test_counts, test_keys};
+use crate::fields::{read_fields, read_text, read_times, test_counts, test_keys, test_span};
 use crate::pairs::Pairs;
 use crate::rows::{last_value, value};
 use nf_core::{NoMemory, Plan, Row, Value};
@@ -19,8 +19,8 @@ use nf_text::plain_texts;
 use std::alloc::Global;
 use std::marker::Model;
 
-/// An accepted line. Contracts see its name, its begin and its end, and its keys and values as they are written
-/// (`Raw` of specs/Raw). Its texts are lent by the line.
+/// An accepted line. Contracts see its name, its begin and its end, and its keys and values as they are
+/// written (`Raw` of specs/Raw). Its texts are lent by the line.
 #[derive(Debug, Drop)]
 pub struct RawLine<'a> {
     name: &'a str,
@@ -50,25 +50,27 @@ impl<'a> Model for RawLine<'a> {
 impl<'a> RawLine<'a> {
     /// Reads a line that isn't empty, of at most 65,536 bytes and without LF, whose one CR at the end
     /// was dropped before. The answer is the accepted line, or the first fault of the table
-    /// (`line_within` of specs/Line). Keys and values are parts of the line, in its order. Takes no
-    /// memory.
-    #[tactic(auto, using(crate::proofs::LineLemmas::reading, crate::proofs::PlainTextLemmas::values_unmarked))]
+    /// (`line_within` of specs/Line). Keys and values are parts of the line, in its order. The name holds
+    /// no `|`. Takes no memory.
+    #[tactic(auto, using(crate::proofs::LineLemmas::reading, crate::proofs::PlainTextLemmas::values_unmarked, crate::proofs::PlainTextLemmas::name_unbarred))]
     pub fn read(line: &'a [u8]) -> Result<RawLine<'a>, LineFault>
         requires some { line.now ≢ [] }
         requires can_be_read { CanBeRead line.now }
         ensures line { line_read result ≡ line_within line.now }
         ensures texts { IfOk result (λ raw.
             raw.texts ≡ texts_of (parts_of (fields_of 124 line.now))) }
+        ensures name { IfOk result (λ raw. holds_bar raw.name ≡ false) }
     {
         let text = read_text(line)?;
         let fields = read_fields(text)?;
-        let time = read_line_time(fields.time)?;
+        let times = read_times(fields.start, fields.stop)?;
+        test_span(&times)?;
         test_keys(fields.keys)?;
         test_counts(fields.keys, fields.values)?;
         Ok(RawLine {
             name: fields.name,
-            start: time,
-            stop: time,
+            start: times.start,
+            stop: times.stop,
             keys: fields.keys,
             values: fields.values,
         })
@@ -81,7 +83,8 @@ impl<'a> RawLine<'a> {
         self.name
     }
 
-    /// When the line begins, which isn't after its end: at its time. Takes no memory.
+    /// When the line begins, which isn't after its end: at its second field, which is the time of a line
+    /// of two or four fields. Takes no memory.
     pub fn start(&self) -> i64
         ensures start { result ≡ self.now.start }
         ensures within { result ≤ℤ self.now.stop }
@@ -89,7 +92,8 @@ impl<'a> RawLine<'a> {
         self.start
     }
 
-    /// When the line ends, by which lines are ordered: at its time. Takes no memory.
+    /// When the line ends, by which lines are ordered: at its third field of five, and at its time where
+    /// it has two or four. Takes no memory.
     pub fn time(&self) -> i64
         ensures { result ≡ self.now.stop }
     {

@@ -1,20 +1,24 @@
 -- Numerals, and what std's reader of numbers says of them.
-use Rattle.std.proofs.Common.{◌≡◌, ℕ, ◌^◌, ◌<◌, ◌≤◌, true, false, ◌&&◌, ◌||◌, leb, List, [], ◌∷◌, length, drop, get_or, ltb, sym, ap, ◌∙◌, arith, rules, ℤ, pos, negsuc, tests, ◌⊎◌, inl, inr, Some, None, Result, Ok, Err, subst, ⊎_elim, ◌==◌, bytes_eq, codes}
+use Rattle.std.proofs.Common.{◌≡◌, ℕ, ◌^◌, ◌<◌, ◌≤◌, true, false, ◌&&◌, ◌||◌, List, [], ◌∷◌, length, drop, get_or, ltb, sym, ap, arith, rules, ℤ, pos, negsuc, tests, ◌⊎◌, inl, inr, Some, Result, Ok, Err, subst, ⊎_elim, ◌==◌, bytes_eq, codes}
 use Rattle.std.specs.List.{list_all}
 use Rattle.std.specs.Char.{is_ascii_digit}
-use Rattle.std.specs.Result.{result_ok, OkIff}
+use Rattle.std.specs.Result.{result_ok}
 use Rattle.std.specs.Str.Parse.{digits_value, signed_digits_value, IsNumeral, without_leading_sign, without_leading_plus, starts_with_minus, ParsesSigned}
 use Rattle.std.specs.Int.{w64}
 use Rattle.std.specs.Int.RustNames.{FitsSigned}
-use Rattle.std.proofs.lemmas.Str.Parse.{parse_signed_digits}
-use borrow.Author.Tests.{eqb-true, ltb-true, ne_eqb, lt-ltb, le-leb, leb-true}
+use Rattle.std.proofs.Math.Nat.{pow-le-pow_right}
+use borrow.Author.Tests.{eqb-true, ltb-true, ne_eqb, lt-ltb, le-leb}
 use Rattle.std.proofs.lemmas.Bool.{and_parts, and_from, or_cases, false_from_ne_true}
 use Rattle.std.proofs.lemmas.Slice.Eq.{bytes_eq-Decides}
 use Rattle.nf_core.specs.Texts.{is_i64}
 use Rattle.nf_text.specs.Value.{is_positive, is_numeral, whole_of}
 use Rattle.nf_text.specs.Time.{is_time, time_of}
-use Rattle.nf_lemmas.proofs.BoolLemmas.{choose_first, choose_second}
+use Rattle.nf_lemmas.proofs.BoolLemmas.{choose_first}
 use Rattle.nf_lemmas.proofs.DigitLemmas.{digits_model}
+
+-- a number of at most 18 digits
+pub within_digits : (n i : ℕ) → i ≤ 18 → n < 10 ^ i → n < 10 ^ 18
+within_digits n i short below = let most : 10 ^ i ≤ 10 ^ 18 = pow-le-pow_right (omega arith) short in omega (arith, most, below)
 
 -- a positive numeral is not empty, and begins above `0`
 pub positive_digits : (ds : List ℕ) → is_positive ds ≡ true → (list_all is_ascii_digit ds ≡ true) × (48 < get_or ds 0 0)
@@ -86,21 +90,3 @@ unfolding time_of
 time_is text h n l v =
     choose_first (is_time text) _ _
     (and_from _ _ (and_from _ _ (and_from _ _ h (le-leb 1 (length text) n)) (le-leb (length text) 19 l)) (lt-ltb (digits_value 10 text) (2 ^ 63) v))
-
--- a text that is no time spells none
-pub no_time : (text : List ℕ) → (is_time text ≡ true → ⊥) → time_of text ≡ None
-unfolding time_of
-no_time text h = choose_second (is_time text) _ _ (false_from_ne_true (is_time text) h)
-
--- what std reads of at most 19 digits is their time
-time_cases : {E : Type 0} (text : List ℕ) (r : Result ℤ E) → list_all is_ascii_digit text ≡ true → length text ≤ 19
-    → OkIff r ((0 < length text) × (digits_value 10 text < 2 ^ 63)) (pos (digits_value 10 text)) → result_ok r ≡ time_of text
-time_cases text (Ok n) h l p = ap Some p.1 ∙ sym (time_is text h p.0.0 l p.0.1)
-time_cases text (Err e) h l p = sym (no_time text (λ t.
-    let a = and_parts _ (ltb (digits_value 10 text) (2 ^ 63)) t in
-    let b = and_parts _ (leb (length text) 19) a.0 in
-    let c = and_parts _ (leb 1 (length text)) b.0 in
-    p (leb-true 1 (length text) c.1, ltb-true (digits_value 10 text) (2 ^ 63) a.1)))
-
-pub time_read : {E : Type 0} (text : List ℕ) (r : Result ℤ E) → list_all is_ascii_digit text ≡ true → length text ≤ 19 → ParsesSigned w64 10 text r → result_ok r ≡ time_of text
-time_read text r h l p = time_cases text r h l (parse_signed_digits digits_model w64 text r p h)
