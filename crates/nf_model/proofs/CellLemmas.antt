@@ -94,10 +94,10 @@ module _ (plan : Plan) (n : ℕ) where
       all_once (minimal members) [] (All-filter (is_minimal members) (IsOfKeys plan n) members h) (All-nil (IsOfKeys plan n))
 
 -- and so have the judged candidates, over any pools, where the inputs have
-pub candidates_cells : (plan : Plan) (full : Bool) (inputs : Inputs) (pool : ℕ → List Interval) (n : ℕ) → IsPlan plan → AreOfKeys plan inputs
-    → All (IsOfKeys plan n) (judged full (candidates_over plan inputs pool n))
-candidates_cells plan full inputs pool n valid rows =
-    judged_cells plan n full (candidates_over plan inputs pool n)
+pub candidates_cells : (plan : Plan) (all : Bool) (inputs : Inputs) (pool : ℕ → List Interval) (n : ℕ) → IsPlan plan → AreOfKeys plan inputs
+    → All (IsOfKeys plan n) (judged all (candidates_over plan inputs pool n))
+candidates_cells plan all inputs pool n valid rows =
+    judged_cells plan n all (candidates_over plan inputs pool n)
     (All-append (IsOfKeys plan n) (of_name inputs n) (flat_map (results_over pool) (rules_of plan n)) (rows n) (rules_cells plan n pool plan.rules valid.rules))
 
 -- and rows stay as long as their keys

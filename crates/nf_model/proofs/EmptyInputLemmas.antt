@@ -9,7 +9,7 @@ use Rattle.nf_core.specs.declared.terms.PlanRule.{PlanRule}
 use Rattle.nf_model.specs.Members.{IsOfKeys, AreOfKeys}
 use Rattle.nf_model.specs.Results.{results_by}
 use Rattle.nf_model.specs.Levels.{Pools}
-use Rattle.nf_model.specs.Pools.{of_name, judged, results_over, second_of, held_over, pool}
+use Rattle.nf_model.specs.Pools.{of_name, judged, holds_all, results_over, second_of, held_over, pool}
 use Rattle.nf_model.proofs.Public.InputLemmas.{nothing_entered}
 use Rattle.nf_model.proofs.Public.LevelLemmas.{kept_by_levels}
 
@@ -33,7 +33,7 @@ nothing_made : (plan : Plan) (full : Bool) (count : ℕ) (pools : Pools) → ((m
 nothing_made plan full count pools none n =
     let results : flat_map (results_over pools) (rules_of plan n) ≡ [] =
     nothing_joined (results_over pools) (λ (rule : PlanRule). no_results rule rule.link (pools rule.first) (second_of pools rule.link) (none rule.first)) (rules_of plan n) in
-    ap (judged full) (ap (λ is. is ++ flat_map (results_over pools) (rules_of plan n)) (nothing_entered count n) ∙ results) ∙ judged_nothing full
+    ap (judged (holds_all plan full n)) (ap (λ is. is ++ flat_map (results_over pools) (rules_of plan n)) (nothing_entered count n) ∙ results) ∙ judged_nothing (holds_all plan full n)
 
 -- the pools of no inputs are empty
 pub nothing_pooled : (plan : Plan) (full : Bool) (count n : ℕ) → pool plan full (replicate count []) n ≡ []

@@ -5,7 +5,7 @@ use Rattle.std.proofs.lemmas.Bool.Decides.{eqb_tells}
 use Rattle.nf_core.specs.Intervals.{Interval}
 use Rattle.nf_core.specs.Plan.{Plan, IsPlan, level_of}
 use Rattle.nf_model.specs.Members.{AreOfKeys}
-use Rattle.nf_model.specs.Pools.{Inputs, of_name, held_over, pool}
+use Rattle.nf_model.specs.Pools.{Inputs, of_name, held_over, holds_all, pool}
 use Rattle.nf_model.specs.inner.Known.{AreKnownUpTo}
 use Rattle.nf_model.proofs.PoolLemmas.{reads_below}
 use Rattle.nf_model.proofs.Public.LevelLemmas.{step-is_by_levels}
@@ -27,7 +27,7 @@ module _ (plan : Plan) (full : Bool) (inputs : Inputs) where
       (get_or-set_same lists name new [] inside ∙ is_pool) in
       record {
         each = length-set lists name new ∙ known.each;
-        rows = set_cells plan lists name new inside known.rows (candidates_cells plan full inputs (of_name lists) name valid rows);
+        rows = set_cells plan lists name new inside known.rows (candidates_cells plan (holds_all plan full name) inputs (of_name lists) name valid rows);
         below = λ n named lower. other n (λ is. let e : level_of plan n ≡ level = ap (level_of plan) is ∙ is_level in absurd (omega arith)) ∙ known.below n named lower;
         here = λ n named before of_level.
             elim (eqb_tells n name) [

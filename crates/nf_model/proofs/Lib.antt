@@ -1,4 +1,5 @@
 mod WorkedTraces
+mod WorkOfTraces
 pub mod ListLemmas
 pub mod Public
 pub mod PoolLemmas

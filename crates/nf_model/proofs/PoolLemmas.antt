@@ -9,7 +9,7 @@ use Rattle.nf_core.specs.declared.terms.Link.TheVariants.{One, Pair, Unless}
 use Rattle.nf_core.specs.declared.terms.PlanRule.{PlanRule}
 use Rattle.nf_model.specs.Levels.{Pools, IsBelow, ReadsBelow}
 use Rattle.nf_model.specs.Results.{results_by}
-use Rattle.nf_model.specs.Pools.{Inputs, of_name, judged, second_of, results_over, held_over, pool, candidates}
+use Rattle.nf_model.specs.Pools.{Inputs, of_name, judged, holds_all, second_of, results_over, held_over, pool, candidates}
 use Rattle.nf_model.proofs.ListLemmas.{All-parts, flat_map_alike}
 use Rattle.nf_model.proofs.Public.LevelLemmas.{by_levels_solved}
 
@@ -57,7 +57,7 @@ results_alike P Q rule h =
 -- a pool reads those of lower levels alone
 pub reads_below : (plan : Plan) (full : Bool) (inputs : Inputs) → IsPlan plan → ReadsBelow plan (held_over plan full inputs)
 reads_below plan full inputs valid P Q n within alike =
-    ap (λ (is : List Interval). judged full (of_name inputs n ++ is))
+    ap (λ (is : List Interval). judged (holds_all plan full n) (of_name inputs n ++ is))
     (flat_map_alike (results_over P) (results_over Q) (rules_of plan n)
     (All-weaker (λ rule. All (IsBelow plan n) (body_names rule)) (λ rule. results_over P rule ≡ results_over Q rule)
     (λ rule below. results_alike P Q rule (All-weaker (IsBelow plan n) (λ m. P m ≡ Q m) alike (body_names rule) below))
@@ -65,5 +65,5 @@ reads_below plan full inputs valid P Q n within alike =
 
 -- the pool of a name is its judged candidates
 pub pool_is_judged : (plan : Plan) (full : Bool) (inputs : Inputs) (n : ℕ) → IsPlan plan → n < length plan.names
-    → pool plan full inputs n ≡ judged full (candidates plan full inputs n)
+    → pool plan full inputs n ≡ judged (holds_all plan full n) (candidates plan full inputs n)
 pool_is_judged plan full inputs n valid within = by_levels_solved plan (held_over plan full inputs) (reads_below plan full inputs valid) n within

@@ -25,7 +25,7 @@ use Rattle.nf_core.specs.declared.terms.PlanEntry.{PlanEntry}
 use Rattle.nf_core.specs.declared.terms.PlanRule.{PlanRule}
 use Rattle.nf_core.proofs.Public.AscendingLemmas.{IsStrictlySortedBy-fold}
 use Rattle.nf_model.specs.Results.{int_of, end_point, cell_of, row_of, interval_from, is_met, built, of_one, of_pair, is_blocker, of_unblocked, results_by}
-use Rattle.nf_model.specs.Pools.{Inputs, of_name, is_minimal, minimal, judged, second_of, results_over, candidates_over, held_over, pool}
+use Rattle.nf_model.specs.Pools.{Inputs, of_name, is_minimal, minimal, judged, holds_all, second_of, results_over, candidates_over, held_over, pool}
 use Rattle.nf_model.specs.Levels.{Pools, through_levels}
 use Rattle.nf_model.specs.Changes.{no_inputs, pool_of}
 use Rattle.nf_model.specs.ProperRows.{IsProperCell, IsProper, AreProper}
@@ -176,7 +176,7 @@ module _ (plan : Plan) (valid : IsPlan plan) where
 
   step_proper : (full : Bool) (inputs : Inputs) → AreProper plan (of_name inputs) → (pools : Pools) → AreProper plan pools → AreProper plan (held_over plan full inputs pools)
   step_proper full inputs h pools held n =
-      judged_proper full (IsProper (keys_of plan n)) (candidates_over plan inputs pools n)
+      judged_proper (holds_all plan full n) (IsProper (keys_of plan n)) (candidates_over plan inputs pools n)
       (All-append (IsProper (keys_of plan n)) (of_name inputs n) (flat_map (results_over pools) (rules_of plan n)) (h n)
       (rules_proper pools held n (rules_of plan n)
       (All-filter (λ (rule : PlanRule). rule.head == n) (IsRuleOf plan) plan.rules valid.rules)
@@ -194,7 +194,7 @@ judged_set false is = IsStrictlySortedBy-fold interval_cmp interval_cmp_total (m
 
 pub pools_are_sets : (plan : Plan) (full : Bool) (inputs : Inputs) (n : ℕ) → IsSet (pool plan full inputs n)
 unfolding through_levels
-pools_are_sets plan full inputs n = judged_set full (candidates_over plan inputs (through_levels (held_over plan full inputs) (level_of plan n)) n)
+pools_are_sets plan full inputs n = judged_set (holds_all plan full n) (candidates_over plan inputs (through_levels (held_over plan full inputs) (level_of plan n)) n)
 
 -- and of no inputs they are empty
 pub no_pools : (plan : Plan) (full : Bool) (n : ℕ) → pool_of (no_inputs plan full) n ≡ []

@@ -2,3 +2,4 @@
 pub mod LevelLemmas
 pub mod ChangeLemmas
 pub mod InputLemmas
+pub mod WorkLemmas

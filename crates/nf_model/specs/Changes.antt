@@ -1,9 +1,9 @@
 -- What the pools of heads lose and gain between two inputs.
-use Rattle.std.specs.Prelude.{◌≡◌, ℕ, Bool, not, List, [], map, filter, flat_map, length, replicate, slice_set, All}
+use Rattle.std.specs.Prelude.{◌≡◌, ℕ, Bool, not, List, [], map, filter, flat_map, length, replicate, slice_set, All, IsTrue}
 use Rattle.std.specs.List.{range_with_len}
 use Rattle.nf_core.specs.Intervals.{Interval}
 use Rattle.nf_core.specs.Sets.{IsSet, has, inserted}
-use Rattle.nf_core.specs.Plan.{Plan, IsPlan, is_head}
+use Rattle.nf_core.specs.Plan.{Plan, IsPlan, is_head, is_wide}
 use Rattle.nf_core.specs.declared.intervals.Named.{Named}
 use Rattle.nf_core.specs.declared.intervals.Change.{Change}
 use Rattle.nf_model.specs.Levels.{Pools}
@@ -16,13 +16,14 @@ pub record Content : Type 0 where
   pub full : Bool
   pub inputs : Inputs
 
--- what holds of every content: its plan is one, and each name has a list of inputs that ascends and has each interval once, whose rows have a cell for each key of the name, and which begin no later than they end
+-- what holds of every content: its plan is one, and each name has a list of inputs that ascends and has each interval once, whose rows have a cell for each key of the name, and which begin no later than they end; a wide name has no inputs
 pub record IsContent (content : Content) : Type 0 where
   pub valid : IsPlan content.plan
   pub each : length content.inputs ≡ length content.plan.names
   pub sets : (n : ℕ) → IsSet (of_name content.inputs n)
   pub rows : AreOfKeys content.plan content.inputs
   pub times : (n : ℕ) → All IsInTime (of_name content.inputs n)
+  pub narrow : (n : ℕ) → IsTrue (is_wide content.plan n) → of_name content.inputs n ≡ []
 
 -- the content of a plan before anything was entered
 abbrev pub no_inputs : Plan → Bool → Content

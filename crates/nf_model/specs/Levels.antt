@@ -18,7 +18,8 @@ pub record IsBelow (plan : Plan) (n m : ℕ) : Type 0 where
 
 -- a step reads lower levels alone: it gives a name of the plan the same list where the names below it have the same lists
 abbrev pub ReadsBelow : Plan → Step → Type 0
-ReadsBelow plan step = (P Q : Pools) (n : ℕ) → n < length plan.names → ((m : ℕ) → IsBelow plan n m → P m ≡ Q m) → step P n ≡ step Q n
+ReadsBelow plan step = (P Q : Pools) (n : ℕ) → n < length plan.names
+    → ((m : ℕ) → IsBelow plan n m → P m ≡ Q m) → step P n ≡ step Q n
 
 -- the lists worked out through so many levels. By a step that reads lower levels alone they are those of each name below that level; nothing else reads the others
 unfoldable pub through_levels : Step → ℕ → Pools

@@ -21,7 +21,8 @@ pub record IsPlanned (rule : PlanRule) : Type 0 where
 
 -- the expressions that a rule's result is made by: those of its map, `begin` and `end`
 abbrev pub result_terms : PlanRule → List Term
-result_terms rule = map (λ (entry : PlanEntry). entry.value) rule.entries ++ (option_to_list rule.start ++ option_to_list rule.stop)
+result_terms rule = map (λ (entry : PlanEntry). entry.value) rule.entries
+    ++ (option_to_list rule.start ++ option_to_list rule.stop)
 
 -- the expressions of all clauses
 abbrev pub clause_terms : PlanRule → List Term
@@ -62,9 +63,11 @@ joined (Unless xop n) second = None
 -- the rows of the intervals of two lists have every place that a rule reads of them, by its link: in an exclusive rule `where` reads both of a pair, and the result's expressions read the first one
 abbrev pub HaveAllPlaces : PlanRule → Link → List Interval → List Interval → Type 0
 HaveAllPlaces rule One firsts seconds = All (λ i. HavePlaces (clause_terms rule) i None) firsts
-HaveAllPlaces rule (Pair op n) firsts seconds = All (λ i. All (λ j. HavePlaces (clause_terms rule) i (Some j)) seconds) firsts
+HaveAllPlaces rule (Pair op n) firsts seconds =
+    All (λ i. All (λ j. HavePlaces (clause_terms rule) i (Some j)) seconds) firsts
 HaveAllPlaces rule (Unless xop n) firsts seconds =
-    All (λ i. All (λ j. HavePlaces (option_to_list rule.filter) i (Some j)) seconds) firsts × All (λ i. HavePlaces (result_terms rule) i None) firsts
+    All (λ i. All (λ j. HavePlaces (option_to_list rule.filter) i (Some j)) seconds) firsts
+    × All (λ i. HavePlaces (result_terms rule) i None) firsts
 
 -- the link of an inclusive rule with this operator
 abbrev pub IsPairBy : Op → Link → Type 0

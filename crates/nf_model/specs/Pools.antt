@@ -1,9 +1,9 @@
 -- Candidates and pools: the meaning of the rules over whole inputs.
-use Rattle.std.specs.Prelude.{Bool, not, List, [], ◌++◌, filter, flat_map, slice_index_or, if◌then◌else◌}
+use Rattle.std.specs.Prelude.{ℕ, Bool, not, ◌||◌, List, [], ◌++◌, filter, flat_map, slice_index_or, if◌then◌else◌}
 use Rattle.std.specs.List.{list_any}
 use Rattle.nf_core.specs.Intervals.{Interval, is_strictly_inside}
 use Rattle.nf_core.specs.Sets.{once}
-use Rattle.nf_core.specs.Plan.{Plan, rules_of}
+use Rattle.nf_core.specs.Plan.{Plan, rules_of, is_wide}
 use Rattle.nf_core.specs.declared.terms.Link.{Link}
 use Rattle.nf_core.specs.declared.terms.Link.TheVariants.{One, Pair, Unless}
 use Rattle.nf_core.specs.declared.terms.PlanRule.{PlanRule}
@@ -26,9 +26,13 @@ is_minimal members i = not (list_any (λ j. is_strictly_inside j i) members)
 abbrev pub minimal : List Interval → List Interval
 minimal members = filter (is_minimal members) members
 
--- the held ones of some candidates, each once: the minimal ones, and under full all of them
+-- whether all candidates of a name are held: under full, and where the name is wide
+abbrev pub holds_all : Plan → Bool → ℕ → Bool
+holds_all plan full n = full || is_wide plan n
+
+-- the held ones of some candidates, each once: the minimal ones, or all of them where all are held
 abbrev pub judged : Bool → List Interval → List Interval
-judged full members = if full then once members else once (minimal members)
+judged all members = if all then once members else once (minimal members)
 
 -- the intervals of a link's second name
 abbrev pub second_of : Pools → Link → List Interval
@@ -46,7 +50,7 @@ candidates_over plan inputs pool n = of_name inputs n ++ flat_map (results_over 
 
 -- the held candidates of a name, where the pools of other names are these
 abbrev pub held_over : Plan → Bool → Inputs → Step
-held_over plan full inputs pool n = judged full (candidates_over plan inputs pool n)
+held_over plan full inputs pool n = judged (holds_all plan full n) (candidates_over plan inputs pool n)
 
 -- the pool of a name: its held candidates, over the pools of the names below
 abbrev pub pool : Plan → Bool → Inputs → Pools

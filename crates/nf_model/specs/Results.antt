@@ -44,7 +44,8 @@ end_point (Some term) n i j = int_of (value_of i j term)
 
 -- the value that the map gives a place of the head's keys; missing where it names no such key or the value is Undefined
 abbrev pub cell_of : List PlanEntry → ℕ → Interval → Option Interval → Option value.Value
-cell_of entries place i j = option_and_then (λ (entry : PlanEntry). value_of i j entry.value) (find (λ (entry : PlanEntry). entry.place == place) entries)
+cell_of entries place i j = option_and_then (λ (entry : PlanEntry). value_of i j entry.value)
+    (find (λ (entry : PlanEntry). entry.place == place) entries)
 
 -- the row that the map gives, one cell for each key of the head
 abbrev pub row_of : PlanRule → Interval → Option Interval → List (Option value.Value)
@@ -52,19 +53,22 @@ row_of rule i j = map (λ place. cell_of rule.entries place i j) (range_with_len
 
 -- an interval with a begin that isn't after its end
 abbrev pub interval_from : Option ℤ → Option ℤ → List (Option value.Value) → Option Interval
-interval_from (Some start) (Some stop) row = if int_le start stop then Some (record { start = start; stop = stop; row = row }) else None
+interval_from (Some start) (Some stop) row =
+    if int_le start stop then Some (record { start = start; stop = stop; row = row }) else None
 interval_from (Some start) None row = None
 interval_from None stop row = None
 
 -- the result of a rule from its members and their span; none where an end point is Undefined or no whole number, or where begin is after end
 unfoldable pub built : PlanRule → ℤ → ℤ → Interval → Option Interval → Option Interval
-built rule start stop i j = interval_from (end_point rule.start start i j) (end_point rule.stop stop i j) (row_of rule i j)
+built rule start stop i j =
+    interval_from (end_point rule.start start i j) (end_point rule.stop stop i j) (row_of rule i j)
 
 -- the result that a rule builds from members, by its link: from an interval with its own span, from a pair with the operator's span, and of an exclusive rule from the first member alone, whatever the second one is
 unfoldable pub built_by : PlanRule → Link → Interval → Option Interval → Option Interval
 built_by rule One i second = built rule i.start i.stop i None
 built_by rule (Pair op n) i None = None
-built_by rule (Pair op n) i (Some j) = built rule (span i.start i.stop j.start j.stop op).0 (span i.start i.stop j.start j.stop op).1 i (Some j)
+built_by rule (Pair op n) i (Some j) =
+    built rule (span i.start i.stop j.start j.stop op).0 (span i.start i.stop j.start j.stop op).1 i (Some j)
 built_by rule (Unless xop n) i second = built rule i.start i.stop i None
 
 -- the result that a rule builds from members
@@ -92,7 +96,8 @@ is_blocker rule xop one_name i j = faces xop one_name i j && is_met rule i (Some
 
 -- what an exclusive rule gives from an interval: its span, where no other one blocks it. Its clauses read that interval alone
 unfoldable pub of_unblocked : PlanRule → Xop → Bool → List Interval → Interval → Option Interval
-of_unblocked rule xop one_name others i = if list_any (is_blocker rule xop one_name i) others then None else built rule i.start i.stop i None
+of_unblocked rule xop one_name others i =
+    if list_any (is_blocker rule xop one_name i) others then None else built rule i.start i.stop i None
 
 -- the results by a link, over the intervals of the first name and of the second one, in the order of these lists
 abbrev pub results_by : PlanRule → Link → List Interval → List Interval → List Interval

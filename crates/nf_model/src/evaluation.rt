@@ -4,7 +4,7 @@ ghost use Rattle.std.specs.Prelude.{◌≡◌, ◌==◌, ◌<◌, ℕ, [], ◌++
 ghost use Rattle.nf_core.specs.Plan.{body_names, level_of};
 ghost use Rattle.nf_model.specs.inner.Known.{AreKnown, ArePools};
 ghost use Rattle.nf_model.specs.Members.{IsPlanned, HaveAllPlaces, AreOfKeys};
-ghost use Rattle.nf_model.specs.Pools.{of_name, second_of, results_over, candidates_over, judged};
+ghost use Rattle.nf_model.specs.Pools.{of_name, second_of, results_over, candidates_over, held_over, holds_all};
 
 use crate::judging::judge;
 use crate::results::push_results;
@@ -69,6 +69,14 @@ fn candidates<L: Ledger>(
     Ok(out)
 }
 
+/// Whether all candidates of a name are held: under `full`, and where the name is wide.
+fn holds_all(plan: &Plan, full: bool, name: u32) -> bool
+    requires { name < length plan.now.names }
+    ensures { result ≡ holds_all plan.now full name }
+{
+    full || plan.is_wide(name)
+}
+
 /// Sets the list of a name to its judged candidates, where the name has this level.
 fn settle<L: Ledger>(
     alloc: Global,
@@ -87,12 +95,13 @@ fn settle<L: Ledger>(
     ensures { OnOk result (pools.new.items
         ≡ (if level_of plan.now name == level
         then slice_set pools.old.items name
-        (judged full (candidates_over plan.now inputs.now (of_name pools.old.items) name))
+        (held_over plan.now full inputs.now (of_name pools.old.items) name)
         else pools.old.items)) }
 {
     if plan.level(name) == level {
         let candidates = candidates(alloc, plan, inputs, pools.as_slice(), name, steps)?;
-        pools[name as usize] = judge(alloc, full, candidates.as_slice())?;
+        let all = holds_all(plan, full, name);
+        pools[name as usize] = judge(alloc, all, candidates.as_slice())?;
     }
     Ok(())
 }

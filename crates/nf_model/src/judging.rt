@@ -71,16 +71,12 @@ fn once(alloc: Global, members: &[Interval]) -> Result<IntervalSet, NoMemory>
     Ok(set)
 }
 
-/// The held ones of some candidates, each once: the minimal ones, and under `full` all of them
+/// The held ones of some candidates, each once: the minimal ones, or all of them where all are held
 /// (`judged` of specs/Pools).
-pub(crate) fn judge(
-    alloc: Global,
-    full: bool,
-    members: &[Interval],
-) -> Result<IntervalSet, NoMemory>
-    ensures { IfOk result (λ set. set ≡ pool.judged full members.now) }
+pub(crate) fn judge(alloc: Global, all: bool, members: &[Interval]) -> Result<IntervalSet, NoMemory>
+    ensures { IfOk result (λ set. set ≡ pool.judged all members.now) }
 {
-    if full {
+    if all {
         once(alloc, members)
     } else {
         once(alloc, minimal(alloc, members)?.as_slice())

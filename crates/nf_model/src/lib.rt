@@ -4,7 +4,8 @@
 //! specs/Results has the clauses of a rule over its members, and its results over whole lists by all
 //! pairs; specs/Levels has recursion on the level by any step, and specs/Pools by it the candidates and
 //! the pool of each name; specs/Changes has the content of an evaluator and what the pools of heads
-//! lose and gain. `is_met` and `build` carry out the clauses of a rule, with `maps` for the rows.
+//! lose and gain; specs/Work has how many expressions a thrifty evaluator evaluates at most. `is_met`
+//! and `build` carry out the clauses of a rule, with `maps` for the rows.
 //! `Inferer` is what each evaluator promises by these definitions, and `Scratch` is the plainest one:
 //! `results` computes the results of a rule, with `exclusive` for those of exclusive ones, `judging`
 //! which candidates are held, `evaluation` the pools level by level, and `changes` what differs. Below

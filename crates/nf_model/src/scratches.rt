@@ -1,6 +1,6 @@
 //! The slow evaluator.
 
-ghost use Rattle.std.specs.Prelude.{◌≡◌, IfOk};
+ghost use Rattle.std.specs.Prelude.{◌≡◌, IfOk, false};
 ghost use Rattle.nf_model.specs.Changes.{no_inputs};
 
 use crate::changes::change_of;
@@ -11,8 +11,8 @@ use std::alloc::Global;
 use std::marker::Model;
 use std::sync::ledger::Ledger;
 
-/// An evaluator that keeps what was entered and computes all pools anew at each step. Contracts
-/// see its content (`Content` of specs/Changes).
+/// An evaluator that keeps what was entered and computes all pools anew at each step, so it isn't
+/// thrifty. Contracts see its content (`Content` of specs/Changes).
 #[derive(Debug, Drop)]
 pub struct Scratch {
     plan: Plan,
@@ -57,6 +57,8 @@ impl Scratch {
 
 impl Inferer for Scratch {
     ghost content = { λ s. s };
+
+    ghost is_thrifty = { λ s. false };
 
     fn step<L: Ledger>(
         self,

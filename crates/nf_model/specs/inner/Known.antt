@@ -9,14 +9,18 @@ use Rattle.nf_model.specs.Pools.{Inputs, of_name, pool}
 pub record AreKnown (plan : Plan) (full : Bool) (inputs : Inputs) (level : ℕ) (lists : Inputs) : Type 0 where
   pub each : length lists ≡ length plan.names
   pub rows : AreOfKeys plan lists
-  pub below : (n : ℕ) → n < length plan.names → level_of plan n < level → of_name lists n ≡ pool plan full inputs n
+  pub below : (n : ℕ) → n < length plan.names → level_of plan n < level
+      → of_name lists n ≡ pool plan full inputs n
 
 -- and so are those of the names of that level that have a number below a given one
-pub record AreKnownUpTo (plan : Plan) (full : Bool) (inputs : Inputs) (level count : ℕ) (lists : Inputs) : Type 0 where
+pub record AreKnownUpTo (plan : Plan) (full : Bool) (inputs : Inputs)
+    (level count : ℕ) (lists : Inputs) : Type 0 where
   pub each : length lists ≡ length plan.names
   pub rows : AreOfKeys plan lists
-  pub below : (n : ℕ) → n < length plan.names → level_of plan n < level → of_name lists n ≡ pool plan full inputs n
-  pub here : (n : ℕ) → n < length plan.names → n < count → level_of plan n ≡ level → of_name lists n ≡ pool plan full inputs n
+  pub below : (n : ℕ) → n < length plan.names → level_of plan n < level
+      → of_name lists n ≡ pool plan full inputs n
+  pub here : (n : ℕ) → n < length plan.names → n < count → level_of plan n ≡ level
+      → of_name lists n ≡ pool plan full inputs n
 
 -- the lists of all names are their pools
 pub record ArePools (plan : Plan) (full : Bool) (inputs : Inputs) (lists : Inputs) : Type 0 where

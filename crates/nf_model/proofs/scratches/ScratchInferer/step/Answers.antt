@@ -14,13 +14,13 @@ pub pools_of-requires-clause-rows : goal.pools_of-requires-clause-rows
 pools_of-requires-clause-rows g c =
     subst (AreOfKeys c.self.inside.plan) (sym c.as_slice.ensures.value)
     (stepped c.args.self c.self.inside.plan c.self.inside.full c.self.inside.inputs.items c.args.name c.args.interval c.index_mut.result.now c.insert.new.self
-    (c.self.view_is, c.self.invariant.content) c.requires.name c.requires.row (search rules) c.index_mut.ensures.value c.in_ok-insert.ensures.ok).rows
+    (c.self.view_is, c.self.invariant.content) c.requires.name c.requires.narrow c.requires.row (search rules) c.index_mut.ensures.value c.in_ok-insert.ensures.ok).rows
 
 pub invariant_of-scratch : goal.invariant_of-scratch
 invariant_of-scratch g c = record {
   content =
       stepped c.args.self c.self.inside.plan c.self.inside.full c.self.inside.inputs.items c.args.name c.args.interval c.index_mut.result.now c.insert.new.self
-      (c.self.view_is, c.self.invariant.content) c.requires.name c.requires.row (search rules) c.index_mut.ensures.value c.in_ok-insert.ensures.ok;
+      (c.self.view_is, c.self.invariant.content) c.requires.name c.requires.narrow c.requires.row (search rules) c.index_mut.ensures.value c.in_ok-insert.ensures.ok;
   known = subst (λ (ins : Inputs). ArePools c.self.inside.plan c.self.inside.full ins c.in_ok-pools.pools.items) c.as_slice.ensures.value c.in_ok-pools.ensures;
 }
 
