@@ -1,29 +1,42 @@
 -- All that a call promises, from what its parts promise.
-use Rattle.std.proofs.Common.{◌≡◌, ℕ, ◌<◌, ◌≤◌, false, List, [], ◌∷◌, ◌++◌, length, Option, Some, None, IfSome, Result, Ok, Err, refl, sym, ◌∙◌, subst, inl, arith}
-use Rattle.nf_io.specs.Files.{Files}
+use Rattle.std.proofs.Common.{◌≡◌, ℕ, ◌<◌, ◌≤◌, Bool, false, List, [], ◌∷◌, ◌++◌, length, take, Option, Some, None, IfSome, Result, Ok, Err, refl, sym, ◌∙◌, ap, subst, inl, arith}
+use Rattle.std.specs.Prelude.{IsErrAnd, MatchResult}
+use Rattle.std.proofs.lemmas.Option.{IfSome_then}
+use Rattle.nf_core.specs.Plan.{Plan, IsPlan}
+use Rattle.nf_io.specs.Files.{Files, bytes_of}
 use Rattle.nf_io.specs.Causes.{Rose}
 use Rattle.nf_io.specs.Tells.{ShelfTells, SinkTells}
 use Rattle.nf_io.proofs.Public.{Took-none}
+use Rattle.nf_line.specs.Trace.{trace}
+use Rattle.nf_session.specs.Replay.{IsReplayed}
+use Rattle.nf_session.specs.Sessions.{is_unread}
+use Rattle.nf_session.specs.declared.fault.SessionEnd.{SessionEnd}
+use Rattle.nf_session.specs.declared.fault.SessionEnd.TheVariants as end
+use Rattle.nf_spec.specs.Specification.{Specifies}
 use Rattle.nf_spec.specs.declared.compiling.Compiled.{Compiled}
-use Rattle.nfer_cli.specs.Answers.{Answers, AsksWithin, CannotRead, CannotReadAt, CheckReadsTo, Defines, FollowReadsTo, IfReadFault, IsCompleteFor, ReadsTo, RefusedReadsTo, is_read_fault, refusal}
+use Rattle.nfer_cli.specs.Answers.{Answers, AreReplayed, AsksWithin, CannotReadAt, CheckReadsTo, Defines, FollowReadsTo, IfReadFault, IsCompleteFor, ReadsTo, Replays, WroteLast, is_read_fault, refusal}
 use Rattle.nfer_cli.specs.Calls.{CarriesOut}
-use Rattle.nfer_cli.specs.Words.{Asked, Check, Follow, file_words, specification_words, trace_word, Options}
-use Rattle.nfer_cli.specs.inner.Ended.{AsksUnlessWanted, FollowsFile, MayAskFor, Prints}
-use Rattle.nfer_cli.specs.inner.Failures.{concluded, ends_unread, failed_status, is_unread, session_status}
-use Rattle.nfer_cli.specs.inner.Specified.{Accepts, AreRefused, AsksOne, EndsBehind, SpecificationFails}
+use Rattle.nfer_cli.specs.Sources.{sources_of}
+use Rattle.nfer_cli.specs.Words.{Asked, Check, Follow, Infer, file_words, specification_words, standard_input, Options}
+use Rattle.nfer_cli.specs.inner.Ended.{Prints}
+use Rattle.nfer_cli.specs.inner.Failures.{concluded, ends_unread, failed_status, failure_at, session_status}
+use Rattle.nfer_cli.specs.inner.Running.{Runs, session_asks, trace_by}
+use Rattle.nfer_cli.specs.inner.Specified.{Accepts, AsksOne, EndsBehind, SpecificationFails}
 use Rattle.nfer_cli.specs.declared.fault.Failure.{Failure}
 use Rattle.nfer_cli.specs.declared.fault.Failure.TheVariants as failure
-use Rattle.nfer_cli.specs.declared.session_end.SessionEnd.{SessionEnd}
-use Rattle.nfer_cli.specs.declared.session_end.SessionEnd.TheVariants as session
+use Rattle.nfer_cli.specs.declared.running.Session.{Session}
+use Rattle.nfer_cli.specs.declared.running.Session.TheVariants as session
 use Rattle.nfer_cli.specs.declared.status.Status.{Status}
 use Rattle.nfer_cli.specs.declared.status.Status.TheVariants as status
-use Rattle.nfer_cli.proofs.AnswerLemmas.{answers_checked, answers_followed}
+use Rattle.nfer_cli.proofs.AnswerLemmas.{answers_checked, answers_ran}
 use Rattle.nfer_cli.proofs.AskedFileLemmas.{asks_before_trace, asks_with_trace, cannot_before_trace, cannot_trace}
 use Rattle.nfer_cli.proofs.ExistenceLemmas.{AreSpecified}
-use Rattle.nfer_cli.proofs.ReadingEndLemmas.{reads_followed}
-use Rattle.nfer_cli.proofs.RefusalLemmas.{answers_unchecked, answers_unfollowed}
+use Rattle.nfer_cli.proofs.ReadingEndLemmas.{reads_ran}
+use Rattle.nfer_cli.proofs.RefusalLemmas.{answers_unchecked, answers_unrun}
+use Rattle.nfer_cli.proofs.RunningLemmas.{always}
 use Rattle.nfer_cli.proofs.ShortReadLemmas.{cannot_since, told_before}
 use Rattle.nfer_cli.proofs.SpecificationEndLemmas.{not_accepted}
+use Rattle.nfer_cli.proofs.UniquenessLemmas.{AreOne}
 
 -- an answer without a fault is a defined one, or want of memory
 complete_by : (question : Option Asked) (files : Files) (s : Status) (rest before now : Option (List ℕ)) → (IfReadFault s (λ place. ⊥)) → (s ≡ status.WriteFault → ⊥) → Answers question files s rest before now → IsCompleteFor (Defines question files) s
@@ -52,9 +65,10 @@ carried : (question : Asked) (s : Status) (shelf now : ShelfTells) (out out_now 
     → IfSome shelf.files (λ files. ReadsTo (Some question) s files shelf.asked shelf.rest now.asked now.rest)
     → AsksOne (file_words (Some question)) shelf now → IfReadFault s (λ place. CannotReadAt (file_words (Some question)) place shelf now)
     → now.failed ≡ is_read_fault s → (s ≡ status.WriteFault → Rose out.faults out_now.faults)
+    → IfSome shelf.files (λ files. WroteLast (Some question) files s now.rest) → IfSome shelf.files (λ files. Replays (Some question) files s)
     → IfReadFault s (λ place. place < length (specification_words (Some question)) → out_now.taken ≡ out.taken)
     → CarriesOut (Some question) s shelf now out out_now
-carried question s shelf now out out_now never answer reads asks read failed write unread = record {
+carried question s shelf now out out_now never answer reads asks read failed write last replayed unread = record {
   usage = (λ is. absurd (never is), λ none. cc);
   answer = answer;
   reads = reads;
@@ -62,6 +76,8 @@ carried question s shelf now out out_now never answer reads asks read failed wri
   read_fault = read;
   failed = failed;
   write_fault = write;
+  written_last = last;
+  replayed = replayed;
   unread = unread;
   completes = completes (Some question) s (file_words (Some question)) shelf now out out_now answer read write;
   untouched = λ is. absurd (never is);
@@ -77,6 +93,8 @@ carried_usage question shelf out none = subst (λ (q : Option Asked). CarriesOut
   read_fault = tt;
   failed = tt;
   write_fault = λ is. absurd cc;
+  written_last = always shelf.files _ (λ files. tt);
+  replayed = always shelf.files _ (λ files. tt);
   unread = tt;
   completes = λ calm out_calm. completes None status.Usage [] shelf shelf out out (answer shelf.files) tt (λ is. absurd cc) calm out_calm;
   untouched = λ is. refl;
@@ -93,15 +111,6 @@ carried_usage question shelf out none = subst (λ (q : Option Asked). CarriesOut
     asks : (told : Option Files) → IfSome told (λ files. AsksWithin [] files shelf.asked shelf.asked)
     asks None = tt
     asks (Some files) = inl refl
-
--- what holds whatever the files are
-always : (told : Option Files) (P : Files → Type 0) → ((files : Files) → P files) → IfSome told P
-always None P h = tt
-always (Some files) P h = h files
-
-each : (told : Option Files) (P Q : Files → Type 0) → ((files : Files) → P files → Q files) → IfSome told P → IfSome told Q
-each None P Q f h = tt
-each (Some files) P Q f h = f files h
 
 -- a failure is not usage
 never_usage : (why : Failure) → failed_status why ≡ status.Usage → ⊥
@@ -134,7 +143,7 @@ nothing_written failure.Write n out = tt
 nothing_written failure.NoMemory n out = tt
 
 check_stands : (names : List (List ℕ)) (root : Option (List ℕ)) (why : Failure) (shelf now : ShelfTells) → SpecificationFails names root why shelf now → IfSome shelf.files (λ files. CheckReadsTo names (failed_status why) files now.asked now.rest)
-check_stands names root (failure.Specification w) shelf now fails = each shelf.files (λ files. AreRefused files names root w now.asked now.rest) (λ files. RefusedReadsTo names w files now.asked now.rest) (λ files h. h.stands) fails
+check_stands names root (failure.Specification w) shelf now fails = IfSome_then shelf.files fails (λ files h. h.stands)
 check_stands names root (failure.Read place) shelf now fails = fails.stands
 check_stands names root failure.NoMemory shelf now fails = always shelf.files (λ files. Unit {0}) (λ files. tt)
 check_stands names root other shelf now fails = absurd fails
@@ -149,11 +158,12 @@ pub check_unspecified : AreSpecified → (names : List (List ℕ)) (options : Op
     → CarriesOut (Some (Check options names)) (failed_status why) shelf now out out
 check_unspecified specified names options why shelf now out fails failed asks =
     carried (Check options names) (failed_status why) shelf now out out (never_usage why) (answers_unchecked specified shelf.files names options why now.rest out.taken (not_accepted names options.root why shelf now fails))
-    (check_stands names options.root why shelf now fails) asks (check_fault names options.root why shelf now fails) (failed ∙ sym (failed_read why)) (no_write names options.root why shelf now out out fails) (nothing_written why (length names) out)
+    (check_stands names options.root why shelf now fails) asks (check_fault names options.root why shelf now fails) (failed ∙ sym (failed_read why)) (no_write names options.root why shelf now out out fails)
+    (always shelf.files _ (λ files. tt)) (always shelf.files _ (λ files. tt)) (nothing_written why (length names) out)
 
 follow_stands : (names : List (List ℕ)) (trace : List ℕ) (root : Option (List ℕ)) (why : Failure) (shelf now : ShelfTells) → SpecificationFails names root why shelf now → IfSome shelf.files (λ files. FollowReadsTo names trace (failed_status why) files now.asked now.rest)
-follow_stands names trace root (failure.Specification w) shelf now fails = each shelf.files (λ files. AreRefused files names root w now.asked now.rest) (λ files. RefusedReadsTo names w files now.asked now.rest) (λ files h. h.stands) fails
-follow_stands names trace root (failure.Read place) shelf now fails = each shelf.files _ (λ files. FollowReadsTo names trace (status.ReadFault place) files now.asked now.rest) (λ files h. inl (fails.cannot.place_is, h)) fails.stands
+follow_stands names trace root (failure.Specification w) shelf now fails = IfSome_then shelf.files fails (λ files h. h.stands)
+follow_stands names trace root (failure.Read place) shelf now fails = IfSome_then shelf.files fails.stands (λ files h. inl (fails.cannot.place_is, h))
 follow_stands names trace root failure.NoMemory shelf now fails = always shelf.files (λ files. Unit {0}) (λ files. tt)
 follow_stands names trace root other shelf now fails = absurd fails
 
@@ -163,64 +173,118 @@ follow_fault names trace root (failure.Read place) shelf now fails = cannot_befo
 follow_fault names trace root failure.NoMemory shelf now fails = tt
 follow_fault names trace root other shelf now fails = absurd fails
 
-pub follow_unspecified : AreSpecified → (names : List (List ℕ)) (options : Options) (why : Failure) (shelf now : ShelfTells) (out : SinkTells) → SpecificationFails names options.root why shelf now → now.failed ≡ ends_unread {A = Compiled} (Err why) → AsksOne names shelf now
-    → CarriesOut (Some (Follow options names)) (failed_status why) shelf now out out
-follow_unspecified specified names options why shelf now out fails failed asks =
-    carried (Follow options names) (failed_status why) shelf now out out (never_usage why) (answers_unfollowed specified shelf.files names options why now.rest out.taken (not_accepted names options.root why shelf now fails))
-    (follow_stands names trace_word options.root why shelf now fails) (asks_before_trace names trace_word shelf now asks) (follow_fault names trace_word options.root why shelf now fails)
-    (failed ∙ sym (failed_read why)) (no_write names options.root why shelf now out out fails) (nothing_written why (length names) out)
+-- a session that a command names was carried out
+carried_over : (q : Session) (names : List (List ℕ)) (options : Options) (s : Status) (shelf now : ShelfTells) (out out_now : SinkTells) → (s ≡ status.Usage → ⊥)
+    → IfSome shelf.files (λ files. Answers (Some (session_asks q options names)) files s now.rest out.taken out_now.taken)
+    → IfSome shelf.files (λ files. FollowReadsTo names (trace_by q) s files now.asked now.rest)
+    → AsksOne (names ++ trace_by q ∷ []) shelf now → IfReadFault s (λ place. CannotReadAt (names ++ trace_by q ∷ []) place shelf now)
+    → now.failed ≡ is_read_fault s → (s ≡ status.WriteFault → Rose out.faults out_now.faults)
+    → IfSome shelf.files (λ files. WroteLast (Some (session_asks q options names)) files s now.rest) → IfSome shelf.files (λ files. Replays (Some (session_asks q options names)) files s)
+    → IfReadFault s (λ place. place < length names → out_now.taken ≡ out.taken)
+    → CarriesOut (Some (session_asks q options names)) s shelf now out out_now
+carried_over session.Follow names options s shelf now out out_now = carried (Follow options names) s shelf now out out_now
+carried_over (session.Infer trace) names options s shelf now out out_now = carried (Infer options names trace.now) s shelf now out out_now
+
+-- where a specification isn't compiled nothing was written, and no trace was read
+unrun_last : (q : Session) (names : List (List ℕ)) (options : Options) (why : Failure) (shelf now : ShelfTells) → SpecificationFails names options.root why shelf now
+    → IfSome shelf.files (λ files. WroteLast (Some (session_asks q options names)) files (failed_status why) now.rest)
+unrun_last session.Follow names options why shelf now fails = always shelf.files _ (λ files. tt)
+unrun_last (session.Infer trace) names options (failure.Specification w) shelf now fails = always shelf.files _ (λ files. tt)
+unrun_last (session.Infer trace) names options (failure.Read place) shelf now fails = always shelf.files _ (λ files. tt)
+unrun_last (session.Infer trace) names options failure.NoMemory shelf now fails = always shelf.files _ (λ files. tt)
+unrun_last (session.Infer trace) names options other shelf now fails = absurd fails
+
+unrun_replayed : (q : Session) (names : List (List ℕ)) (options : Options) (why : Failure) (shelf now : ShelfTells) → SpecificationFails names options.root why shelf now
+    → IfSome shelf.files (λ files. Replays (Some (session_asks q options names)) files (failed_status why))
+unrun_replayed (session.Infer trace) names options why shelf now fails = always shelf.files _ (λ files. tt)
+unrun_replayed session.Follow names options (failure.Specification w) shelf now fails = always shelf.files _ (λ files. tt)
+unrun_replayed session.Follow names options (failure.Read place) shelf now fails = always shelf.files _ (λ files. tt)
+unrun_replayed session.Follow names options failure.NoMemory shelf now fails = always shelf.files _ (λ files. tt)
+unrun_replayed session.Follow names options other shelf now fails = absurd fails
+
+pub session_unspecified : AreSpecified → (q : Session) (names : List (List ℕ)) (options : Options) (why : Failure) (shelf now : ShelfTells) (out : SinkTells) → SpecificationFails names options.root why shelf now
+    → now.failed ≡ ends_unread {A = Compiled} (Err why) → AsksOne names shelf now → CarriesOut (Some (session_asks q options names)) (failed_status why) shelf now out out
+session_unspecified specified q names options why shelf now out fails failed asks =
+    carried_over q names options (failed_status why) shelf now out out (never_usage why) (answers_unrun specified q shelf.files names options why now.rest out.taken (not_accepted names options.root why shelf now fails))
+    (follow_stands names (trace_by q) options.root why shelf now fails) (asks_before_trace names (trace_by q) shelf now asks) (follow_fault names (trace_by q) options.root why shelf now fails)
+    (failed ∙ sym (failed_read why)) (no_write names options.root why shelf now out out fails) (unrun_last q names options why shelf now fails) (unrun_replayed q names options why shelf now fails) (nothing_written why (length names) out)
 
 -- the rules of a specification were printed, or writing them failed
 pub check_printed : (names : List (List ℕ)) (options : Options) (made : Compiled) (result : Result (Unit {0}) Failure) (shelf now : ShelfTells) (out out_now : SinkTells) → Accepts shelf names options.root made → EndsBehind names shelf now → now.failed ≡ false → AsksOne names shelf now
     → Prints made result out out_now → CarriesOut (Some (Check options names)) (concluded result) shelf now out out_now
 check_printed names options made (Ok done) shelf now out out_now accepts ends failed asks prints =
-    carried (Check options names) status.Done shelf now out out_now (λ is. cc) (answers_checked names options made (Ok done) shelf now out out_now accepts prints) ends asks tt failed (λ is. absurd cc) tt
+    carried (Check options names) status.Done shelf now out out_now (λ is. cc) (answers_checked names options made (Ok done) shelf now out out_now accepts prints) ends asks tt failed (λ is. absurd cc) (always shelf.files _ (λ files. tt)) (always shelf.files _ (λ files. tt)) tt
 check_printed names options made (Err failure.Write) shelf now out out_now accepts ends failed asks prints =
-    carried (Check options names) status.WriteFault shelf now out out_now (λ is. cc) (answers_checked names options made (Err failure.Write) shelf now out out_now accepts prints) ends asks tt failed (λ is. prints.1) tt
+    carried (Check options names) status.WriteFault shelf now out out_now (λ is. cc) (answers_checked names options made (Err failure.Write) shelf now out out_now accepts prints) ends asks tt failed (λ is. prints.1) (always shelf.files _ (λ files. tt)) (always shelf.files _ (λ files. tt)) tt
 check_printed names options made (Err failure.NoMemory) shelf now out out_now accepts ends failed asks prints =
-    carried (Check options names) status.NoMemory shelf now out out_now (λ is. cc) (answers_checked names options made (Err failure.NoMemory) shelf now out out_now accepts prints) (always shelf.files (λ files. Unit {0}) (λ files. tt)) asks tt failed (λ is. absurd cc) tt
+    carried (Check options names) status.NoMemory shelf now out out_now (λ is. cc) (answers_checked names options made (Err failure.NoMemory) shelf now out out_now accepts prints) (always shelf.files _ (λ files. tt)) asks tt failed (λ is. absurd cc) (always shelf.files _ (λ files. tt)) (always shelf.files _ (λ files. tt)) tt
 check_printed names options made (Err other) shelf now out out_now accepts ends failed asks prints = absurd prints
 
 -- the ends of a session are no usage, and its faults have their causes
 session_never_usage : (place : ℕ) (result : Result (Unit {0}) SessionEnd) → session_status place result ≡ status.Usage → ⊥
 session_never_usage place (Ok done) is = cc
-session_never_usage place (Err (session.Trace w)) is = cc
-session_never_usage place (Err session.ReadFault) is = cc
-session_never_usage place (Err session.WriteFault) is = cc
-session_never_usage place (Err session.NoMemory) is = cc
+session_never_usage place (Err (end.Trace w)) is = cc
+session_never_usage place (Err end.ReadFault) is = cc
+session_never_usage place (Err end.WriteFault) is = cc
+session_never_usage place (Err end.NoMemory) is = cc
 
 session_failed : (place : ℕ) (result : Result (Unit {0}) SessionEnd) → is_read_fault (session_status place result) ≡ is_unread result
 session_failed place (Ok done) = refl
-session_failed place (Err (session.Trace w)) = refl
-session_failed place (Err session.ReadFault) = refl
-session_failed place (Err session.WriteFault) = refl
-session_failed place (Err session.NoMemory) = refl
+session_failed place (Err (end.Trace w)) = refl
+session_failed place (Err end.ReadFault) = refl
+session_failed place (Err end.WriteFault) = refl
+session_failed place (Err end.NoMemory) = refl
 
-session_write : (place : ℕ) (result : Result (Unit {0}) SessionEnd) (P : Type 0) → (result ≡ Err session.WriteFault → P) → session_status place result ≡ status.WriteFault → P
+session_write : (place : ℕ) (result : Result (Unit {0}) SessionEnd) (P : Type 0) → (result ≡ Err end.WriteFault → P) → session_status place result ≡ status.WriteFault → P
 session_write place (Ok done) P h is = absurd cc
-session_write place (Err (session.Trace w)) P h is = absurd cc
-session_write place (Err session.ReadFault) P h is = absurd cc
-session_write place (Err session.WriteFault) P h is = h refl
-session_write place (Err session.NoMemory) P h is = absurd cc
+session_write place (Err (end.Trace w)) P h is = absurd cc
+session_write place (Err end.ReadFault) P h is = absurd cc
+session_write place (Err end.WriteFault) P h is = h refl
+session_write place (Err end.NoMemory) P h is = absurd cc
 
-session_read : (place : ℕ) (result : Result (Unit {0}) SessionEnd) (P : ℕ → Type 0) → (result ≡ Err session.ReadFault → P place) → IfReadFault (session_status place result) P
+session_read : (place : ℕ) (result : Result (Unit {0}) SessionEnd) (P : ℕ → Type 0) → (result ≡ Err end.ReadFault → P place) → IfReadFault (session_status place result) P
 session_read place (Ok done) P h = tt
-session_read place (Err (session.Trace w)) P h = tt
-session_read place (Err session.ReadFault) P h = h refl
-session_read place (Err session.WriteFault) P h = tt
-session_read place (Err session.NoMemory) P h = tt
+session_read place (Err (end.Trace w)) P h = tt
+session_read place (Err end.ReadFault) P h = h refl
+session_read place (Err end.WriteFault) P h = tt
+session_read place (Err end.NoMemory) P h = tt
 
--- a trace was followed, which is the file behind those of a specification
-pub followed_carries : (names : List (List ℕ)) (options : Options) (made : Compiled) (place : ℕ) (result : Result (Unit {0}) SessionEnd) (shelf middle now : ShelfTells) (out out_now : SinkTells) → middle.files ≡ shelf.files → place ≡ length names
-    → shelf.faults ≤ middle.faults → middle.failed ≡ false → Accepts shelf names options.root made → AsksOne names shelf middle → FollowsFile made.plan options.full trace_word result middle now out out_now
-    → MayAskFor trace_word middle now → AsksUnlessWanted trace_word result middle now → (result ≡ Err session.ReadFault → CannotRead trace_word middle now)
-    → (middle.failed ≡ false → now.failed ≡ is_unread result) → (result ≡ Err session.WriteFault → Rose out.faults out_now.faults)
-    → CarriesOut (Some (Follow options names)) (session_status place result) shelf now out out_now
-followed_carries names options made place result shelf middle now out out_now same count later calm accepts asks follows may_ask asked cannot failed write =
-    carried (Follow options names) (session_status place result) shelf now out out_now (session_never_usage place result)
-    (answers_followed names options made place result shelf middle now out out_now same count accepts follows)
-    (told_before shelf.files middle.files _ same (reads_followed names trace_word made.plan options.full place result middle now out out_now count asked follows))
-    (asks_with_trace names trace_word shelf middle now same asks may_ask)
-    (session_read place result (λ at. CannotReadAt (names ++ trace_word ∷ []) at shelf now) (λ is. cannot_trace names trace_word place shelf now count (cannot_since trace_word shelf middle now same later (cannot is))))
-    (failed calm ∙ sym (session_failed place result)) (session_write place result (Rose out.faults out_now.faults) write)
+-- the status of a session is that of the command that it ends
+pub concluded_as : (place : ℕ) (ended : Result (Unit {0}) SessionEnd) (result : Result (Unit {0}) Failure) → MatchResult ended (λ done. result ≡ Ok done) (λ why. IsErrAnd result (λ failure. failure ≡ failure_at place why)) → session_status place ended ≡ concluded result
+concluded_as place (Ok done) result is = ap concluded (sym is)
+concluded_as place (Err why) (Ok done) is = absurd is
+concluded_as place (Err why) (Err failure) is = ap failed_status (sym is)
+
+-- reading announcements back gives what is shown
+abbrev pub AreShown : Type 0
+AreShown = (plan : Plan) (full : Bool) (bytes : List ℕ) (k : ℕ) → IsPlan plan → IsReplayed plan full (take k (trace bytes).events)
+
+-- under what a specification is compiled to the announcements of a trace are replayed
+replayed_by : AreOne → AreShown → (names : List (List ℕ)) (options : Options) (made : Compiled) (bytes : List ℕ) (files : Files) → IsPlan made.plan → Specifies (sources_of files names) options.root (Ok made)
+    → AreReplayed options names bytes files
+replayed_by one shown names options made bytes files valid defined = λ other is k.
+    let found = one (sources_of files names) options.root (Ok made) (Ok other) defined is in
+    let same : made ≡ other = cc in
+    subst (λ (m : Compiled). IsReplayed m.plan options.full (take k (trace bytes).events)) same (shown made.plan options.full bytes k valid)
+
+ran_replayed : AreOne → AreShown → (q : Session) (names : List (List ℕ)) (options : Options) (made : Compiled) (place : ℕ) (result : Result (Unit {0}) SessionEnd) (shelf : ShelfTells) → IsPlan made.plan
+    → Accepts shelf names options.root made → IfSome shelf.files (λ files. Replays (Some (session_asks q options names)) files (session_status place result))
+ran_replayed one shown (session.Infer trace) names options made place result shelf valid accepts = always shelf.files _ (λ files. tt)
+ran_replayed one shown session.Follow names options made place (Ok done) shelf valid accepts = IfSome_then shelf.files accepts (λ files h. replayed_by one shown names options made (bytes_of files standard_input) files valid h.defined)
+ran_replayed one shown session.Follow names options made place (Err (end.Trace w)) shelf valid accepts = IfSome_then shelf.files accepts (λ files h. replayed_by one shown names options made (bytes_of files standard_input) files valid h.defined)
+ran_replayed one shown session.Follow names options made place (Err other) shelf valid accepts = always shelf.files _ (λ files. tt)
+
+-- a session ran over a trace, which is the file behind those of a specification
+pub session_ran : AreOne → AreShown → (q : Session) (names : List (List ℕ)) (options : Options) (made : Compiled) (place : ℕ) (result : Result (Unit {0}) SessionEnd) (shelf middle now : ShelfTells) (out out_now : SinkTells)
+    → IsPlan made.plan → middle.files ≡ shelf.files → place ≡ length names → shelf.faults ≤ middle.faults → middle.failed ≡ false → Accepts shelf names options.root made → AsksOne names shelf middle
+    → Runs q made.plan options.full result middle now out out_now → CarriesOut (Some (session_asks q options names)) (session_status place result) shelf now out out_now
+session_ran one shown q names options made place result shelf middle now out out_now valid same count later calm accepts asks runs =
+    carried_over q names options (session_status place result) shelf now out out_now (session_never_usage place result)
+    (answers_ran q names options made place result shelf middle now out out_now same count accepts runs.over)
+    (told_before shelf.files middle.files _ same (reads_ran q names made.plan options.full place result middle now out out_now count runs))
+    (asks_with_trace q names result shelf middle now same asks runs.asks)
+    (session_read place result (λ at. CannotReadAt (names ++ trace_by q ∷ []) at shelf now) (λ is. cannot_trace names (trace_by q) place shelf now count (cannot_since (trace_by q) shelf middle now same later (runs.read_fault is))))
+    (runs.failed calm ∙ sym (session_failed place result)) (session_write place result (Rose out.faults out_now.faults) runs.write_fault)
+    (told_before shelf.files middle.files _ same (IfSome_then middle.files runs.last (λ files h. h options names place)))
+    (ran_replayed one shown q names options made place result shelf valid accepts)
     (session_read place result (λ at. at < length names → out_now.taken ≡ out.taken) (λ is low. absurd (omega (arith, low, count))))

@@ -7,9 +7,10 @@ use Rattle.nf_spec.specs.Specification.{Specifies}
 use Rattle.nf_spec.specs.declared.compiling.Compiled.{Compiled}
 use Rattle.nf_spec.specs.declared.fault.SpecFault.{SpecFault}
 use Rattle.nf_spec.specs.declared.fault.SpecFault.TheVariants as fault
-use Rattle.nfer_cli.specs.Words.{Asked, Check, Follow, trace_word}
+use Rattle.nf_session.specs.Sessions.{followed, inferred}
+use Rattle.nfer_cli.specs.Words.{Asked, Check, Follow, Infer, standard_input}
 use Rattle.nfer_cli.specs.Sources.{sources_of}
-use Rattle.nfer_cli.specs.Answers.{Answer, refusal, followed, checked, too_long, defines_none, Over, refused, accepted, Defines}
+use Rattle.nfer_cli.specs.Answers.{Answer, refusal, over_trace, checked, too_long, defines_none, Over, refused, accepted, Defines}
 use Rattle.nfer_cli.specs.declared.status.Status.TheVariants as status
 
 -- every specification has an answer
@@ -44,4 +45,5 @@ later_over specified sources root more answer_of place low before = elim (passed
 pub some_answer : AreSpecified → (asked : Option Asked) (files : Files) → (reads : ℕ) × (answer : Answer) × Defines asked files reads answer
 some_answer specified None files = (0, refusal status.Usage, (refl, refl))
 some_answer specified (Some (Check options names)) files = some_over specified (sources_of files names) options.root 0 checked
-some_answer specified (Some (Follow options names)) files = some_over specified (sources_of files names) options.root 1 (λ made. followed made.plan options.full (bytes_of files trace_word))
+some_answer specified (Some (Follow options names)) files = some_over specified (sources_of files names) options.root 1 (over_trace followed options (bytes_of files standard_input))
+some_answer specified (Some (Infer options names trace)) files = some_over specified (sources_of files names) options.root 1 (over_trace inferred options (bytes_of files trace))

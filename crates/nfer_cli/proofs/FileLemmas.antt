@@ -2,7 +2,8 @@
 use Rattle.std.proofs.Common.{◌≡◌, ℕ, ◌+◌, ◌<◌, ◌≤◌, List, [], length, drop, Option, Some, None, IfSome, refl, sym, ◌∙◌, ap, arith, length-append, inl, inr}
 use Rattle.std.proofs.Math.Seq.{drop-append_seam}
 use Rattle.nf_io.specs.Files.{Files, bytes_of, asked_of}
-use Rattle.nfer_cli.specs.Answers.{StandsPastIn, StandsAtEnd, StandsShort, piece_limit}
+use Rattle.nf_session.specs.Sessions.{piece_limit}
+use Rattle.nfer_cli.specs.Answers.{StandsPastIn, StandsAtEnd, StandsShort}
 use Rattle.nfer_cli.specs.inner.Reading.{HasRead, HasEnded, HasPassed, HasStopped}
 
 -- more than some bytes were read, and at most one piece past them

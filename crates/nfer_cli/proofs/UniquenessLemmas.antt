@@ -6,9 +6,10 @@ use Rattle.nf_spec.proofs.Public.PassedLimitLemmas.{one_place, passed_over}
 use Rattle.nf_spec.specs.Specification.{Specifies}
 use Rattle.nf_spec.specs.declared.compiling.Compiled.{Compiled}
 use Rattle.nf_spec.specs.declared.fault.SpecFault.{SpecFault}
-use Rattle.nfer_cli.specs.Words.{Asked, Check, Follow, trace_word}
+use Rattle.nf_session.specs.Sessions.{followed, inferred}
+use Rattle.nfer_cli.specs.Words.{Asked, Check, Follow, Infer, standard_input}
 use Rattle.nfer_cli.specs.Sources.{sources_of}
-use Rattle.nfer_cli.specs.Answers.{Answer, refusal, followed, checked, Refuses, too_long, defines_none, Over, refused, accepted, Defines}
+use Rattle.nfer_cli.specs.Answers.{Answer, refusal, over_trace, checked, Refuses, too_long, defines_none, Over, refused, accepted, Defines}
 use Rattle.nfer_cli.specs.declared.status.Status.TheVariants as status
 
 -- two answers to a specification are the same
@@ -40,4 +41,5 @@ one_over one sources root more answer_of m n a b (accepted {made} e p) (accepted
 pub one_answer : AreOne → (asked : Option Asked) (files : Files) (m n : ℕ) (a b : Answer) → Defines asked files m a → Defines asked files n b → (m ≡ n) × (a ≡ b)
 one_answer one None files m n a b is_a is_b = (is_a.0 ∙ sym is_b.0, is_a.1 ∙ sym is_b.1)
 one_answer one (Some (Check options names)) files m n a b is_a is_b = one_over one (sources_of files names) options.root 0 checked m n a b is_a is_b
-one_answer one (Some (Follow options names)) files m n a b is_a is_b = one_over one (sources_of files names) options.root 1 (λ made. followed made.plan options.full (bytes_of files trace_word)) m n a b is_a is_b
+one_answer one (Some (Follow options names)) files m n a b is_a is_b = one_over one (sources_of files names) options.root 1 (over_trace followed options (bytes_of files standard_input)) m n a b is_a is_b
+one_answer one (Some (Infer options names trace)) files m n a b is_a is_b = one_over one (sources_of files names) options.root 1 (over_trace inferred options (bytes_of files trace)) m n a b is_a is_b

@@ -1,6 +1,3 @@
-pub mod Announcements
-pub mod Follow
-pub mod Replay
 pub mod Sources
 pub mod Listing
 pub mod Words

@@ -1,4 +1,4 @@
--- The one line that standard error gets at each status.
+-- The one message that standard error gets at each status.
 use Rattle.std.specs.Prelude.{ℕ, ℤ, List, [], ◌++◌, codes, decimal}
 use Rattle.std.specs.Fmt.{signed_decimal}
 use Rattle.nf_io.specs.Bytes.{Took, TookPrefix}
@@ -38,7 +38,8 @@ fault_line lexical.NoMemory = 0
 
 -- a refusal at a line of a file, by the file's word
 abbrev pub at_line : List ℕ → ℕ → List ℕ → List ℕ
-at_line file line what = codes "nfer: " ++ file ++ codes ":" ++ decimal line ++ codes ": " ++ what ++ codes "\n"
+at_line file line what =
+    codes "nfer: " ++ file ++ codes ":" ++ decimal line ++ codes ": " ++ what ++ codes "\n"
 
 -- what is shown of a rule's kinds
 abbrev pub kind_text : KindFault → List ℕ
@@ -57,16 +58,19 @@ abbrev pub line_text : LineFault → List ℕ
 line_text line_fault.NotText = codes "not text"
 line_text line_fault.Fields = codes "fields"
 line_text line_fault.Time = codes "time"
+line_text line_fault.Span = codes "span"
 line_text line_fault.Key = codes "key"
 line_text line_fault.Counts = codes "counts"
 
 -- a refusal of a line of the trace, by its number
 abbrev pub at_trace_line : ℕ → List ℕ → List ℕ
-at_trace_line number what = codes "nfer: line " ++ decimal number ++ codes ": " ++ what ++ codes "\n"
+at_trace_line number what =
+    codes "nfer: line " ++ decimal number ++ codes ": " ++ what ++ codes "\n"
 
 -- what is shown of a time that is less than the one before it
 abbrev pub fall_text : ℤ → ℤ → List ℕ
-fall_text kept found = codes "time " ++ signed_decimal found ++ codes " after " ++ signed_decimal kept
+fall_text kept found =
+    codes "time " ++ signed_decimal found ++ codes " after " ++ signed_decimal kept
 
 -- the message of a refused trace
 unfoldable pub trace_message : TraceFault → List ℕ
@@ -78,11 +82,15 @@ trace_message trace_fault.TooLong = codes "nfer: input too long\n"
 -- the message of a refused specification, whose files are given by their places among the file words of the command
 unfoldable pub specification_message : List (List ℕ) → SpecFault → List ℕ
 specification_message names fault.TooLong = codes "nfer: specification too long\n"
-specification_message names (fault.Lex place why) = at_line (word_at names place) (fault_line why) (fault_text why)
-specification_message names (fault.Grammar place line) = at_line (word_at names place) line (codes "grammar")
-specification_message names (fault.TooDeep place line) = at_line (word_at names place) line (codes "too deep")
+specification_message names (fault.Lex place why) =
+    at_line (word_at names place) (fault_line why) (fault_text why)
+specification_message names (fault.Grammar place line) =
+    at_line (word_at names place) line (codes "grammar")
+specification_message names (fault.TooDeep place line) =
+    at_line (word_at names place) line (codes "too deep")
 specification_message names (fault.NoModule name) = codes "nfer: no module " ++ name ++ codes "\n"
-specification_message names (fault.SameModule name) = codes "nfer: module " ++ name ++ codes " twice\n"
+specification_message names (fault.SameModule name) =
+    codes "nfer: module " ++ name ++ codes " twice\n"
 specification_message names (fault.Kinds number why) = at_rule number (kind_text why)
 specification_message names (fault.Cycle head) = codes "nfer: cycle at " ++ head ++ codes "\n"
 specification_message names fault.NoMemory = codes "nfer: no memory\n"
@@ -93,7 +101,8 @@ message names status.Done = []
 message names status.Usage = codes "nfer: usage\n"
 message names (status.Specification why) = specification_message names why
 message names (status.Trace why) = trace_message why
-message names (status.ReadFault place) = codes "nfer: cannot read " ++ word_at names place ++ codes "\n"
+message names (status.ReadFault place) =
+    codes "nfer: cannot read " ++ word_at names place ++ codes "\n"
 message names status.WriteFault = codes "nfer: cannot write\n"
 message names status.NoMemory = codes "nfer: no memory\n"
 

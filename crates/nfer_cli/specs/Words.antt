@@ -1,9 +1,10 @@
 -- The words of the command line, and what they ask for.
-use Rattle.std.specs.Prelude.{◌≡◌, ℕ, ◌^◌, Bool, true, false, not, ◌&&◌, ◌==◌, nat_lt, List, [], ◌∷◌, ◌++◌, length, bytes_eq, codes, Option, Some, None, slice_index_or}
+use Rattle.std.specs.Prelude.{◌≡◌, ℕ, ◌^◌, Bool, true, false, not, ◌&&◌, ◌||◌, ◌==◌, nat_lt, List, [], ◌∷◌, ◌++◌, length, bytes_eq, codes, Option, Some, None, slice_index_or}
 use Rattle.std.specs.List.{list_all, list_any}
 use Rattle.nf_core.specs.Identifiers.{is_identifier}
 
--- what the options of a command give: whether every candidate is held, and the module that is selected with those that it reaches, where one is named
+-- what the options of a command give: whether every candidate is held, and the module that is selected with those
+-- that it reaches, where one is named
 pub record Options : Type 0 where
   pub full : Bool
   pub root : Option (List ℕ)
@@ -16,21 +17,23 @@ no_options = record { full = false; root = None }
 abbrev pub is_among : List ℕ → List (List ℕ) → Bool
 is_among word words = list_any (λ other. bytes_eq other word) words
 
--- words that are options as they are spelled, in any order, each at most once and each among these names, and what they give; `--module` takes the word behind it, which is an identifier
+-- words that are options as they are spelled, in any order, each at most once and each among these names, and
+-- what they give; `--module` takes the word behind it, which is an identifier
 pub data Gives (names : List (List ℕ)) : List (List ℕ) → Options → Type 0 where
   none : Gives names [] no_options
   full : {words : List (List ℕ)} {options : Options}
       → is_among (codes "--full") names ≡ true → options.full ≡ false → Gives names words options
       → Gives names (codes "--full" ∷ words) (record options { full = true })
   root : {words : List (List ℕ)} {options : Options} {name : List ℕ}
-      → is_among (codes "--module") names ≡ true → options.root ≡ None → is_identifier name ≡ true → Gives names words options
+      → is_among (codes "--module") names ≡ true → options.root ≡ None → is_identifier name ≡ true
+      → Gives names words options
       → Gives names (codes "--module" ∷ name ∷ words) (record options { root = Some name })
 
 -- the options of `check`
 abbrev pub check_options : List (List ℕ)
 check_options = codes "--module" ∷ []
 
--- the options of `follow`
+-- the options of `follow` and of `infer`
 abbrev pub follow_options : List (List ℕ)
 follow_options = codes "--full" ∷ codes "--module" ∷ []
 
@@ -41,21 +44,37 @@ is_file_word (byte ∷ bytes) = not (byte == 45)
 
 -- one or more file words, fewer than 2^32
 abbrev pub are_file_words : List (List ℕ) → Bool
-are_file_words files = nat_lt 0 (length files) && nat_lt (length files) (2 ^ 32) && list_all is_file_word files
+are_file_words files =
+    nat_lt 0 (length files) && nat_lt (length files) (2 ^ 32) && list_all is_file_word files
 
--- a command with what its options give and the words of the specification's files
+-- the word under which a command reads standard input
+abbrev pub standard_input : List ℕ
+standard_input = codes "-"
+
+-- a word that names a trace is a file word, or `-`
+abbrev pub is_trace_word : List ℕ → Bool
+is_trace_word word = bytes_eq word standard_input || is_file_word word
+
+-- a command with what its options give, the words of the specification's files, and the word of the trace where
+-- it is given
 pub data Asked : Type 0 where
   Check : Options → List (List ℕ) → Asked
   Follow : Options → List (List ℕ) → Asked
+  Infer : Options → List (List ℕ) → List ℕ → Asked
 
--- what words ask for: they are the command, then its options, then file words; `follow` needs `--full`
+-- what words ask for: they are the command, then its options, then file words, and of `infer` the word of the
+-- trace behind them
 pub data Asks : List (List ℕ) → Asked → Type 0 where
   check : {given files : List (List ℕ)} {options : Options}
       → Gives check_options given options → are_file_words files ≡ true
       → Asks (codes "check" ∷ given ++ files) (Check options files)
   follow : {given files : List (List ℕ)} {options : Options}
-      → Gives follow_options given options → options.full ≡ true → are_file_words files ≡ true
+      → Gives follow_options given options → are_file_words files ≡ true
       → Asks (codes "follow" ∷ given ++ files) (Follow options files)
+  infer : {given files : List (List ℕ)} {trace : List ℕ} {options : Options}
+      → Gives follow_options given options → are_file_words files ≡ true
+      → is_trace_word trace ≡ true
+      → Asks (codes "infer" ∷ given ++ (files ++ trace ∷ [])) (Infer options files trace)
 
 -- words ask for nothing
 abbrev pub AsksNothing : List (List ℕ) → Type 0
@@ -66,20 +85,18 @@ abbrev pub AsksFor : List (List ℕ) → Option Asked → Type 0
 AsksFor words None = AsksNothing words
 AsksFor words (Some question) = Asks words question
 
--- the word under which a command reads standard input
-abbrev pub trace_word : List ℕ
-trace_word = codes "-"
-
--- the word of the trace that a command reads, where it reads one
+-- the word of the trace that a command reads, where it reads one: `follow` reads standard input
 abbrev pub trace_of : Asked → Option (List ℕ)
 trace_of (Check options files) = None
-trace_of (Follow options files) = Some trace_word
+trace_of (Follow options files) = Some standard_input
+trace_of (Infer options files trace) = Some trace
 
 -- the words of a specification's files, in the order in which they are read
 abbrev pub specification_words : Option Asked → List (List ℕ)
 specification_words None = []
 specification_words (Some (Check options files)) = files
 specification_words (Some (Follow options files)) = files
+specification_words (Some (Infer options files trace)) = files
 
 -- the words of files with that of a trace behind them, where there is one
 abbrev pub with_trace : List (List ℕ) → Option (List ℕ) → List (List ℕ)

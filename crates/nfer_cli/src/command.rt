@@ -3,9 +3,9 @@
 ghost use Rattle.std.specs.Prelude.{◌≡◌, option_map};
 ghost use Rattle.std.specs.Option.{option_copied};
 ghost use Rattle.std.specs.List.{list_all};
-ghost use Rattle.nfer_cli.specs.Words.{are_file_words, is_file_word, specification_words, file_words, word_at, trace_of, no_options, check_options, follow_options};
+ghost use Rattle.nfer_cli.specs.Words.{are_file_words, is_file_word, is_trace_word, specification_words, file_words, word_at, trace_of, no_options, check_options, follow_options};
 ghost use Rattle.nfer_cli.specs.inner.Options.{taken};
-ghost use Rattle.nfer_cli.specs.inner.Commands.{asked, asked_by, check_of, follow_of};
+ghost use Rattle.nfer_cli.specs.inner.Commands.{asked, asked_by, check_of, follow_of, infer_of};
 
 use crate::options::{CommandOptions, take_options};
 use nf_core::Text;
@@ -13,7 +13,7 @@ use nf_core::Text;
 // What the number of a specification's files stays below.
 const FILES_LIMIT: usize = 1 << 32;
 
-/// The word under which a command reads its trace from standard input.
+/// The word under which a command reads standard input (`standard_input` of specs/Words.antt).
 pub(crate) const TRACE_WORD: &str = "-";
 
 /// A command with its options and the words of the specification's files (`Asked` of specs/Words.antt).
@@ -24,10 +24,16 @@ pub(crate) enum Command<'a> {
         options: CommandOptions<'a>,
         files: &'a [Text],
     },
-    /// Follows a trace under the specification in these files.
+    /// Follows standard input under the specification in these files.
     Follow {
         options: CommandOptions<'a>,
         files: &'a [Text],
+    },
+    /// Runs the trace of this name under the specification in these files.
+    Infer {
+        options: CommandOptions<'a>,
+        files: &'a [Text],
+        trace: &'a str,
     },
 }
 
@@ -42,6 +48,7 @@ impl<'a> Command<'a> {
         match name.as_str() {
             "check" => parse_check(words),
             "follow" => parse_follow(words),
+            "infer" => parse_infer(words),
             _ => None,
         }
     }
@@ -54,6 +61,7 @@ impl<'a> Command<'a> {
         match self {
             Command::Check { .. } => None,
             Command::Follow { .. } => Some(TRACE_WORD),
+            Command::Infer { trace, .. } => Some(trace),
         }
     }
 
@@ -62,7 +70,9 @@ impl<'a> Command<'a> {
         ensures { result.now ≡ specification_words (Some (asked_by self.entry)) }
     {
         match self {
-            Command::Check { files, .. } | Command::Follow { files, .. } => files,
+            Command::Check { files, .. }
+            | Command::Follow { files, .. }
+            | Command::Infer { files, .. } => files,
         }
     }
 
@@ -96,10 +106,27 @@ fn parse_follow<'a>(words: &'a [Text]) -> Option<Command<'a>>
     ensures { option_map asked_by result ≡ follow_of (taken follow_options no_options words.now) }
 {
     let (options, files) = take_options(&["--full", "--module"], words)?;
-    if !options.full || !are_file_words(files) {
+    if !are_file_words(files) {
         return None;
     }
     Some(Command::Follow { options, files })
+}
+
+// What the words behind `infer` ask for: the last one is that of the trace.
+fn parse_infer<'a>(words: &'a [Text]) -> Option<Command<'a>>
+    ensures { option_map asked_by result ≡ infer_of (taken follow_options no_options words.now) }
+{
+    let (options, rest) = take_options(&["--full", "--module"], words)?;
+    let (trace, files) = rest.split_last()?;
+    let trace = trace.as_str();
+    if !are_file_words(files) || !is_trace_word(trace) {
+        return None;
+    }
+    Some(Command::Infer {
+        options,
+        files,
+        trace,
+    })
 }
 
 // Whether words can be those of a specification's files: one or more, fewer than 2^32, and none
@@ -118,6 +145,13 @@ fn name_files(words: &[Text]) -> bool
     ensures { result ≡ list_all is_file_word words.now }
 {
     words.iter().all(|word| is_file_word(word.as_str()))
+}
+
+// Whether a word can name a trace: it can name a file, or is `-`.
+fn is_trace_word(word: &str) -> bool
+    ensures { result ≡ is_trace_word word.now }
+{
+    word == TRACE_WORD || is_file_word(word)
 }
 
 // Whether a word can name a file: it doesn't begin with `-`.

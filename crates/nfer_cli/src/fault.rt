@@ -1,11 +1,12 @@
 //! What can fail in a command.
 
 ghost use Rattle.std.specs.Prelude.{◌≡◌};
-ghost use Rattle.nfer_cli.specs.inner.Failures.{failure_of_fault};
+ghost use Rattle.nfer_cli.specs.inner.Failures.{failure_at, failure_of_fault};
 ghost use Rattle.nfer_cli.specs.declared.fault.Failure.TheVariants.{NoMemory as no_memory};
 
 use nf_core::NoMemory;
 use nf_line::TraceFault;
+use nf_session::SessionEnd;
 use nf_spec::SpecFault;
 use std::alloc::AllocError;
 
@@ -22,6 +23,21 @@ pub(crate) enum Failure {
     Write,
     /// No memory was left.
     NoMemory,
+}
+
+impl Failure {
+    /// The failure that an end of a session is, where the trace is the file at a place, counted from 0, of the
+    /// command's files.
+    pub(crate) fn of_session(end: SessionEnd, place: usize) -> Failure
+        ensures { result ≡ failure_at place end }
+    {
+        match end {
+            SessionEnd::Trace(fault) => Failure::Trace(fault),
+            SessionEnd::ReadFault => Failure::Read(place),
+            SessionEnd::WriteFault => Failure::Write,
+            SessionEnd::NoMemory => Failure::NoMemory,
+        }
+    }
 }
 
 impl From<NoMemory> for Failure {

@@ -1,12 +1,8 @@
 //! What holds of the definitions themselves.
 
-ghost use Rattle.std.specs.Prelude.{◌≡◌, ◌⊎◌, ℕ, Bool, List, Option};
-ghost use Rattle.nf_core.specs.Plan.{Plan};
+ghost use Rattle.std.specs.Prelude.{◌≡◌, ◌⊎◌, ℕ, List, Option};
 ghost use Rattle.nf_io.specs.Files.{Files};
-ghost use Rattle.nf_line.specs.Trace.{Event};
-ghost use Rattle.nf_model.specs.Changes.{no_inputs};
 ghost use Rattle.nfer_cli.specs.Answers.{Answer, Defines};
-ghost use Rattle.nfer_cli.specs.Follow.{follow_text, text_from};
 ghost use Rattle.nfer_cli.specs.Words.{Asked, Asks, AsksNothing};
 
 use nf_spec::every_specification_has_one_answer;
@@ -16,13 +12,6 @@ use nf_spec::every_specification_has_one_answer;
 pub fn words_ask_for_one_thing()
     ensures one { (words : List (List ℕ)) (a b : Asked) → Asks words a → Asks words b → a ≡ b }
     ensures known { (words : List (List ℕ)) → ((a : Asked) × Asks words a) ⊎ AsksNothing words }
-{}
-
-/// Following a trace by computing every prefix anew writes the same text as entering one event after the
-/// other and writing what each one changes.
-pub fn follow_text_is_one_change_after_another()
-    ensures { (plan : Plan) (full : Bool) (events : List Event)
-        → follow_text plan full events ≡ text_from (no_inputs plan full) events }
 {}
 
 /// Every question has a defined answer, whatever the words and the files are, and no question has two:

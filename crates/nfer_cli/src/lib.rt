@@ -3,38 +3,27 @@
 //! `run` answers words over the files of a shelf, by `Defines` of specs/Answers.antt: the status, what is
 //! written to standard output, and the one line on standard error. `words`, `command` and `options` say what the
 //! words ask for; `specified` reads a specification (`sources`, `reading`) and has it compiled; `checking` prints it
-//! (`listing`); `following` follows a trace (`follower`, `entering`, `announcements` with `announced` and
-//! `data_text`); `fault` and `session_end` say what can fail, `status` and `messages` tell how it ended. Below
-//! stand nf_spec, nf_print, nf_line, nf_model and nf_io; above stands only `main`, which hands in the real files
-//! and streams.
+//! (`listing`); `running` runs a session over a trace; `fault` says what can fail, `status` and `messages` tell how it
+//! ended. Below stand nf_session, nf_spec, nf_print, nf_line, nf_model and nf_io; above stands only `main`, which
+//! hands in the real files and streams.
 #![tactic(auto)]
 
-mod announced;
-mod announcements;
 mod checking;
 mod command;
-mod data_text;
-mod entering;
 mod fault;
-mod follower;
-mod following;
 mod laws;
 mod listing;
 mod messages;
 mod options;
 mod reading;
-mod replay_laws;
-mod session_end;
+mod running;
 mod sources;
 mod specified;
 mod status;
 mod top_call;
 mod words;
 
-pub use laws::{
-    every_question_has_one_answer, follow_text_is_one_change_after_another, words_ask_for_one_thing,
-};
-pub use replay_laws::{lines_give_back_what_they_announce, replay_is_what_is_shown};
+pub use laws::{every_question_has_one_answer, words_ask_for_one_thing};
 pub use status::Status;
 pub use top_call::run;
 pub use words::Words;

@@ -163,6 +163,7 @@ fn line_text(fault: &LineFault) -> &'static str
         LineFault::NotText => "not text",
         LineFault::Fields => "fields",
         LineFault::Time => "time",
+        LineFault::Span => "span",
         LineFault::Key => "key",
         LineFault::Counts => "counts",
     }

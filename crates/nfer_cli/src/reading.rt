@@ -1,16 +1,15 @@
 //! Files read whole, in pieces.
 
-ghost use Rattle.std.specs.Prelude.{◌≡◌, ◌≢◌, ◌+◌, ◌<◌, ◌≤◌, [], length, vec_len, false, IsTrue, IfOk, OnOk};
+ghost use Rattle.std.specs.Prelude.{◌≡◌, ◌≢◌, ◌+◌, ◌<◌, ◌≤◌, [], length, false, IsTrue, IfOk, OnOk};
 ghost use Rattle.nf_io.specs.Causes.{Rose};
+ghost use Rattle.nf_session.specs.Sessions.{piece_limit};
 ghost use Rattle.nfer_cli.specs.inner.Reading.{AsksFor, EndsIn, IsFile, IsLonger, PassesIn, ReadsOn, ReadsPast, ReadsShort, ReadsToEnd, StopsIn, is_unreadable};
 ghost use Rattle.nfer_cli.specs.declared.reading.Unread.TheVariants.{NoMemory as no_memory, Unreadable as unreadable};
 
 use nf_core::{Lines, NoMemory};
 use nf_io::{Failed, Shelf};
+use nf_session::new_buffer;
 use std::alloc::{AllocError, Global};
-
-/// The most bytes of one read.
-pub const PIECE_LIMIT: usize = 65_536;
 
 /// Why a file wasn't read whole.
 #[derive(Debug, Clone, Copy, PartialEq, Eq)]
@@ -80,13 +79,6 @@ pub fn read_file<F: Shelf>(
     Ok(bytes)
 }
 
-/// A buffer for one piece.
-pub fn new_buffer(alloc: Global) -> Result<Vec<u8>, AllocError>
-    ensures { IfOk result (λ bytes. vec_len bytes ≡ PIECE_LIMIT) }
-{
-    vec![in alloc; 0; PIECE_LIMIT]
-}
-
 // Reads the current file to its end, and puts what is read behind the bytes.
 fn read_rest<F: Shelf>(
     shelf: &mut F,
@@ -94,7 +86,7 @@ fn read_rest<F: Shelf>(
     most: usize,
     bytes: &mut Lines,
 ) -> Result<(), Unread>
-    requires room { length buffer.old ≡ PIECE_LIMIT }
+    requires room { length buffer.old ≡ piece_limit }
     requires within { length bytes.old ≤ most }
     ensures files { (F.tells shelf.new).files ≡ (F.tells shelf.old).files }
     ensures asked { (F.tells shelf.new).asked ≡ (F.tells shelf.old).asked }
@@ -122,7 +114,7 @@ fn read_within<F: Shelf>(
     most: usize,
     bytes: &mut Lines,
 ) -> Result<bool, Unread>
-    requires room { length buffer.old ≡ PIECE_LIMIT }
+    requires room { length buffer.old ≡ piece_limit }
     requires within { length bytes.old ≤ most }
     ensures files { (F.tells shelf.new).files ≡ (F.tells shelf.old).files }
     ensures asked { (F.tells shelf.new).asked ≡ (F.tells shelf.old).asked }
@@ -150,12 +142,12 @@ fn read_within<F: Shelf>(
 
 // Reads one piece of the current file, and puts it behind the bytes. Answers whether there was one.
 fn read_piece<F: Shelf>(shelf: &mut F, buffer: &mut [u8], bytes: &mut Lines) -> Result<bool, Unread>
-    requires { length buffer.old ≡ PIECE_LIMIT }
+    requires { length buffer.old ≡ piece_limit }
     ensures files { (F.tells shelf.new).files ≡ (F.tells shelf.old).files }
     ensures asked { (F.tells shelf.new).asked ≡ (F.tells shelf.old).asked }
     ensures never_falls { (F.tells shelf.old).faults ≤ (F.tells shelf.new).faults }
     ensures more { IfOk result (λ more. IsTrue more → length bytes.old < length bytes.new) }
-    ensures piece { OnOk result (length bytes.new ≤ length bytes.old + PIECE_LIMIT) }
+    ensures piece { OnOk result (length bytes.new ≤ length bytes.old + piece_limit) }
     ensures reads { OnOk result
         (ReadsOn (F.tells shelf.old) bytes.old (F.tells shelf.new) bytes.new) }
     ensures end { IfOk result (λ more. more ≡ false

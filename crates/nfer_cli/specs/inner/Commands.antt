@@ -1,6 +1,7 @@
 -- Commands as the code reads them from their words.
-use Rattle.std.specs.Prelude.{ℕ, ◌<◌, ◌^◌, ◌&&◌, List, [], ◌∷◌, length, bytes_eq, codes, Option, Some, None, option_map, ⊤, if◌then◌else◌}
-use Rattle.nfer_cli.specs.Words.{Options, Asked, Check, Follow, no_options, check_options, follow_options, are_file_words, file_words, specification_words}
+use Rattle.std.specs.Prelude.{ℕ, ◌-◌, ◌<◌, ◌^◌, ◌&&◌, List, [], ◌∷◌, length, take, bytes_eq, codes, Option, Some, None, option_map, ⊤, if◌then◌else◌}
+use Rattle.std.specs.List.{slice_get}
+use Rattle.nfer_cli.specs.Words.{Options, Asked, Check, Follow, Infer, no_options, check_options, follow_options, are_file_words, is_trace_word, file_words, specification_words}
 use Rattle.nfer_cli.specs.inner.Options.{given_by, taken}
 use Rattle.nfer_cli.specs.declared.command.Command.{Command}
 use Rattle.nfer_cli.specs.declared.command.Command.TheVariants as command
@@ -9,23 +10,38 @@ use Rattle.nfer_cli.specs.declared.command.Command.TheVariants as command
 abbrev pub asked_by : Command → Asked
 asked_by (command.Check options files) = Check (given_by options) files.now
 asked_by (command.Follow options files) = Follow (given_by options) files.now
+asked_by (command.Infer options files trace) = Infer (given_by options) files.now trace.now
 
 -- what options and file words ask of `check`
 abbrev pub check_of : Option (Options × List (List ℕ)) → Option Asked
 check_of None = None
 check_of (Some given) = if are_file_words given.1 then Some (Check given.0 given.1) else None
 
--- what options and file words ask of `follow`, which needs `--full`
+-- what options and file words ask of `follow`
 abbrev pub follow_of : Option (Options × List (List ℕ)) → Option Asked
 follow_of None = None
-follow_of (Some given) = if given.0.full && are_file_words given.1 then Some (Follow given.0 given.1) else None
+follow_of (Some given) = if are_file_words given.1 then Some (Follow given.0 given.1) else None
+
+-- what options, file words and the word of a trace behind them, where there is one, ask of `infer`
+abbrev pub infer_with : Options → List (List ℕ) → Option (List ℕ) → Option Asked
+infer_with options files None = None
+infer_with options files (Some trace) =
+    if are_file_words files && is_trace_word trace then Some (Infer options files trace) else None
+
+-- what options and the words behind them ask of `infer`, the last of which is that of the trace
+abbrev pub infer_of : Option (Options × List (List ℕ)) → Option Asked
+infer_of None = None
+infer_of (Some given) =
+    let last = length given.1 - 1 in infer_with given.0 (take last given.1) (slice_get given.1 last)
 
 -- what some words ask for, by the command that stands first
 unfoldable pub asked : List (List ℕ) → Option Asked
 asked [] = None
 asked (name ∷ words) =
     if bytes_eq name (codes "check") then check_of (taken check_options no_options words)
-    else (if bytes_eq name (codes "follow") then follow_of (taken follow_options no_options words) else None)
+    else (if bytes_eq name (codes "follow") then follow_of (taken follow_options no_options words)
+    else (if bytes_eq name (codes "infer") then infer_of (taken follow_options no_options words)
+    else None))
 
 -- the file words of a command, and none without one
 abbrev pub names_by : Option Command → List (List ℕ)
@@ -34,4 +50,5 @@ names_by command = file_words (option_map asked_by command)
 -- what is asked names one file of a specification or more, and fewer than 2^32
 abbrev pub NamesFiles : Option Asked → Type 0
 NamesFiles None = ⊤
-NamesFiles (Some question) = (0 < length (specification_words (Some question))) × (length (specification_words (Some question)) < 2 ^ 32)
+NamesFiles (Some question) =
+    let files = specification_words (Some question) in (0 < length files) × (length files < 2 ^ 32)

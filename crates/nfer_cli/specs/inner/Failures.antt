@@ -1,13 +1,11 @@
 -- What each failure inside a command is among the statuses.
 use Rattle.std.specs.Prelude.{ℕ, Bool, true, false, Result, Ok, Err}
+use Rattle.nf_session.specs.declared.fault.SessionEnd.{SessionEnd}
+use Rattle.nf_session.specs.declared.fault.SessionEnd.TheVariants as session
 use Rattle.nf_spec.specs.declared.fault.SpecFault.{SpecFault}
 use Rattle.nf_spec.specs.declared.fault.SpecFault.TheVariants as fault
 use Rattle.nfer_cli.specs.declared.fault.Failure.{Failure}
 use Rattle.nfer_cli.specs.declared.fault.Failure.TheVariants as failure
-use Rattle.nfer_cli.specs.declared.session_end.SessionEnd.{SessionEnd}
-use Rattle.nfer_cli.specs.declared.session_end.SessionEnd.TheVariants as session
-use Rattle.nfer_cli.specs.declared.session_end.FollowEnd.{FollowEnd}
-use Rattle.nfer_cli.specs.declared.session_end.FollowEnd.TheVariants as follow_end
 use Rattle.nfer_cli.specs.declared.status.Status.{Status}
 use Rattle.nfer_cli.specs.declared.status.Status.TheVariants as status
 
@@ -15,6 +13,13 @@ use Rattle.nfer_cli.specs.declared.status.Status.TheVariants as status
 abbrev pub failure_of_fault : SpecFault → Failure
 failure_of_fault fault.NoMemory = failure.NoMemory
 failure_of_fault why = failure.Specification why
+
+-- the failure that an end of a session is, where the trace is the file at a place
+abbrev pub failure_at : ℕ → SessionEnd → Failure
+failure_at place (session.Trace why) = failure.Trace why
+failure_at place session.ReadFault = failure.Read place
+failure_at place session.WriteFault = failure.Write
+failure_at place session.NoMemory = failure.NoMemory
 
 -- the status that a failure is
 abbrev pub failed_status : Failure → Status
@@ -29,28 +34,10 @@ abbrev pub concluded : Result (Unit {0}) Failure → Status
 concluded (Ok done) = status.Done
 concluded (Err why) = failed_status why
 
--- the end of a session that an end of following lines is
-abbrev pub session_end_of : FollowEnd → SessionEnd
-session_end_of (follow_end.Trace why) = session.Trace why
-session_end_of follow_end.WriteFault = session.WriteFault
-session_end_of follow_end.NoMemory = session.NoMemory
-
--- the failure that an end of a session is, where the trace is the file at a place
-abbrev pub failure_at : ℕ → SessionEnd → Failure
-failure_at place (session.Trace why) = failure.Trace why
-failure_at place session.ReadFault = failure.Read place
-failure_at place session.WriteFault = failure.Write
-failure_at place session.NoMemory = failure.NoMemory
-
 -- the status of a session: done, or that of its end
 abbrev pub session_status : ℕ → Result (Unit {0}) SessionEnd → Status
 session_status place (Ok done) = status.Done
 session_status place (Err end) = failed_status (failure_at place end)
-
--- whether a session ended since its trace couldn't be read
-abbrev pub is_unread : Result (Unit {0}) SessionEnd → Bool
-is_unread (Err session.ReadFault) = true
-is_unread other = false
 
 -- whether a call failed since a file couldn't be read
 abbrev pub ends_unread : {A : Type 0} → Result A Failure → Bool

@@ -22,12 +22,14 @@ words_by words = map (λ word. word.now) words
 abbrev pub names_root : Options → List ℕ → Bool
 names_root options name = not (is_some options.root) && is_identifier name
 
--- what options give with those of these names that stand in front of some words, and the words behind them; nothing where one is given twice or its word isn't one
+-- what options give with those of these names that stand in front of some words, and the words behind them;
+-- nothing where one is given twice or its word isn't one
 unfoldable pub taken : List (List ℕ) → Options → List (List ℕ) → Option (Options × List (List ℕ))
 taken names options [] = Some (options, [])
 taken names options (word ∷ []) =
     if not (is_among word names) then Some (options, word ∷ [])
-    else (if bytes_eq word (codes "--full") && not options.full then Some (record options { full = true }, [])
+    else (if bytes_eq word (codes "--full") && not options.full
+    then Some (record options { full = true }, [])
     else None)
 taken names options (word ∷ next ∷ words) =
     if not (is_among word names) then Some (options, word ∷ next ∷ words)
@@ -38,11 +40,15 @@ taken names options (word ∷ next ∷ words) =
     else None))
 
 -- what is taken behind options that were taken before
-abbrev pub taken_behind : List (List ℕ) → Option (Options × List (List ℕ)) → Option (Options × List (List ℕ))
+abbrev pub taken_behind : List (List ℕ) → Option (Options × List (List ℕ))
+    → Option (Options × List (List ℕ))
 taken_behind names None = None
 taken_behind names (Some before) = taken names before.0 before.1
 
--- options and the words behind them are those with one option more, which is the first of some words: nothing where it is refused
-abbrev pub AreWithOption : Options → List ℕ → List (List ℕ) → Option (Options × List (List ℕ)) → Type 0
+-- options and the words behind them are those with one option more, which is the first of some words: nothing
+-- where it is refused
+abbrev pub AreWithOption : Options → List ℕ → List (List ℕ)
+    → Option (Options × List (List ℕ)) → Type 0
 AreWithOption before word words after =
-    (names : List (List ℕ)) → is_among word names ≡ true → taken names before (word ∷ words) ≡ taken_behind names after
+    (names : List (List ℕ)) → is_among word names ≡ true
+    → taken names before (word ∷ words) ≡ taken_behind names after

@@ -2,8 +2,8 @@
 use Rattle.std.specs.Prelude.{◌≡◌, ℕ, ◌+◌, ◌<◌, ◌≤◌, List, [], ◌++◌, length, drop, Bool, true, false, Option, Some, IfSome, Result, Err}
 use Rattle.nf_io.specs.Files.{asked_of, bytes_of}
 use Rattle.nf_io.specs.Tells.{ShelfTells}
+use Rattle.nf_session.specs.Sessions.{piece_limit}
 use Rattle.nfer_cli.specs.Answers.{StandsAtEnd, StandsPastIn, StandsShort}
-use Rattle.nfer_cli.specs.declared.reading.TheConstants.{PIECE_LIMIT}
 use Rattle.nfer_cli.specs.declared.reading.Unread.{Unread}
 use Rattle.nfer_cli.specs.declared.reading.Unread.TheVariants as why
 
@@ -39,19 +39,23 @@ is_unreadable other = false
 
 -- what was read of a whole file before is read of it with what was read since
 abbrev pub ReadsOn : ShelfTells → List ℕ → ShelfTells → List ℕ → Type 0
-ReadsOn before bytes now more = (whole : List ℕ) → HasRead whole bytes before.rest → HasRead whole more now.rest
+ReadsOn before bytes now more =
+    (whole : List ℕ) → HasRead whole bytes before.rest → HasRead whole more now.rest
 
 -- what was read of a whole file before is the whole with what was read since
 abbrev pub ReadsToEnd : ShelfTells → List ℕ → ShelfTells → List ℕ → Type 0
-ReadsToEnd before bytes now more = (whole : List ℕ) → HasRead whole bytes before.rest → HasEnded whole more now.rest
+ReadsToEnd before bytes now more =
+    (whole : List ℕ) → HasRead whole bytes before.rest → HasEnded whole more now.rest
 
 -- of a whole file of which some bytes were read before, more than some were read by now
 abbrev pub ReadsPast : ℕ → ShelfTells → List ℕ → ShelfTells → Type 0
-ReadsPast most before bytes now = (whole : List ℕ) → HasRead whole bytes before.rest → HasPassed most PIECE_LIMIT whole now.rest
+ReadsPast most before bytes now =
+    (whole : List ℕ) → HasRead whole bytes before.rest → HasPassed most piece_limit whole now.rest
 
 -- of a whole file of which some bytes were read before, at most some were read by now
 abbrev pub ReadsShort : ℕ → ShelfTells → List ℕ → ShelfTells → Type 0
-ReadsShort most before bytes now = (whole : List ℕ) → HasRead whole bytes before.rest → HasStopped most whole now.rest
+ReadsShort most before bytes now =
+    (whole : List ℕ) → HasRead whole bytes before.rest → HasStopped most whole now.rest
 
 -- where the shelf tells its files, these are the bytes of the one of this name
 abbrev pub IsFile : ShelfTells → List ℕ → List ℕ → Type 0
@@ -71,8 +75,10 @@ EndsIn name before now = IfSome before.files (λ files. StandsAtEnd files name n
 
 -- where the shelf tells its files, it stands in this one past some bytes
 abbrev pub PassesIn : List ℕ → ℕ → ShelfTells → ShelfTells → Type 0
-PassesIn name most before now = IfSome before.files (λ files. StandsPastIn files name most now.asked now.rest)
+PassesIn name most before now =
+    IfSome before.files (λ files. StandsPastIn files name most now.asked now.rest)
 
 -- where the shelf tells its files, it stands where reading of this one failed
 abbrev pub StopsIn : List ℕ → ℕ → ShelfTells → ShelfTells → Type 0
-StopsIn name most before now = IfSome before.files (λ files. StandsShort files name most now.asked now.rest)
+StopsIn name most before now =
+    IfSome before.files (λ files. StandsShort files name most now.asked now.rest)

@@ -1,6 +1,6 @@
-use Rattle.std.proofs.Common.{◌≡◌, ℕ, ◌-◌, ◌≤◌, List, length}
-use Rattle.nfer_cli.specs.inner.Reading.{HasRead}
-use Rattle.nfer_cli.specs.declared.reading.TheConstants.{PIECE_LIMIT}
+use Rattle.std.proofs.Common.{◌≡◌, ◌-◌, ◌≤◌, length}
+use Rattle.nfer_cli.specs.inner.Reading.{ReadsOn}
+use Rattle.nf_session.specs.Sessions.{piece_limit}
 use Rattle.nfer_cli.proofs.reading.read_rest.Given as goal
 
 -- the bytes so far were read of the file, and they are within the limit
@@ -10,8 +10,8 @@ invariant-pieces g l = let shelf = g.F.Shelf in record {
   asked : (shelf.tells l.shelf).asked ≡ (shelf.tells l.fn.shelf).asked;
   later : (shelf.tells l.fn.shelf).faults ≤ (shelf.tells l.shelf).faults;
   within : length l.bytes ≤ l.most;
-  room : length l.buffer ≡ PIECE_LIMIT;
-  reads : (whole : List ℕ) → HasRead whole l.fn.bytes (shelf.tells l.fn.shelf).rest → HasRead whole l.bytes (shelf.tells l.shelf).rest;
+  room : length l.buffer ≡ piece_limit;
+  reads : ReadsOn (shelf.tells l.fn.shelf) l.fn.bytes (shelf.tells l.shelf) l.bytes;
 }
 
 -- the bytes that are still allowed

@@ -1,0 +1,10 @@
+pub mod JoinedTextLemmas
+pub mod PlainByteLemmas
+pub mod SpellingLemmas
+pub mod SplitTextLemmas
+pub mod RowTextLemmas
+pub mod HeadNameLemmas
+pub mod HeldTextLemmas
+pub mod LineTextLemmas
+pub mod LinePartLemmas
+pub mod Public

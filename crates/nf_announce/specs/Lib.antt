@@ -1,0 +1,4 @@
+pub mod Announcements
+pub mod Printed
+pub mod Reading
+pub mod inner

@@ -1,0 +1,5 @@
+pub mod Follow
+pub mod Replay
+pub mod Followers
+pub mod Sessions
+pub mod inner

@@ -1,0 +1,6 @@
+-- How the code works, no part of the meaning.
+pub mod Announcing
+pub mod Ends
+pub mod Events
+pub mod Progress
+pub mod Reads

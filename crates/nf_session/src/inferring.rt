@@ -1,0 +1,50 @@
+//! Inferring the intervals of a whole trace that is read from a shelf.
+
+ghost use Rattle.std.specs.Prelude.{◌≡◌, List, [], ℕ, Some};
+ghost use Rattle.nf_line.specs.Trace.{Done, trace};
+ghost use Rattle.nf_model.specs.Changes.{no_inputs};
+ghost use Rattle.nf_session.specs.Sessions.{Ends, HasCauses, inferred};
+
+use crate::fault::SessionEnd;
+use crate::session::{Announcing, run_session};
+use nf_announce::write_held;
+use nf_core::{Plan, Steps};
+use nf_io::{Failed, Shelf, Sink, write_all};
+use nf_model::Inferer;
+use std::alloc::Global;
+use std::sync::ledger::Ledger;
+
+/// Runs the whole file that the shelf has picked, under a plan and an inferer of it without inputs: reads it in
+/// pieces of at most 65,536 bytes to its end, and then writes the held intervals of heads, each as an announcement
+/// line without its sign. Nothing is written where the trace is refused. What it writes is `inferred` of
+/// specs/Sessions, and how it ends is `Ends` there.
+///
+/// A refusal comes exactly where a line of the trace is refused, or where 2^63 - 1 bytes of it were read
+/// (`TraceFault::TooLong`); no read is made after it is known. A read fault comes only where the shelf failed in
+/// this call, at its last call; a write fault comes only where the output failed in this call, and only once the
+/// trace was read to its end and accepted. Nothing is written before that.
+pub fn infer<I: Inferer + Drop, F: Shelf, O: Sink, L: Ledger>(
+    alloc: Global,
+    plan: Plan,
+    inferer: I,
+    shelf: &mut F,
+    out: &mut O,
+    steps: &mut Steps<L>,
+) -> Result<(), SessionEnd>
+    requires { I.content inferer ≡ no_inputs plan (I.content inferer).full }
+    ensures ends { (bytes : List ℕ) → (F.tells shelf.old).rest ≡ Some bytes
+        → Ends (inferred plan (I.content inferer).full bytes) bytes result
+        (F.tells shelf.new).rest (O.tells out.old).taken (O.tells out.new).taken }
+    ensures written_last { result ≡ Err SessionEnd.WriteFault
+        → (bytes : List ℕ) → (F.tells shelf.old).rest ≡ Some bytes
+        → ((trace bytes).ending ≡ Done) × ((F.tells shelf.new).rest ≡ Some []) }
+    ensures causes { HasCauses result
+        (F.tells shelf.old) (F.tells shelf.new) (O.tells out.old) (O.tells out.new) }
+{
+    let follower = run_session(alloc, plan, inferer, Announcing::Nothing, shelf, out, steps)?;
+    let lines = write_held(alloc, follower.plan(), follower.inferer())?;
+    match write_all(out, lines.as_slice()) {
+        Ok(()) => Ok(()),
+        Err(Failed) => Err(SessionEnd::WriteFault),
+    }
+}

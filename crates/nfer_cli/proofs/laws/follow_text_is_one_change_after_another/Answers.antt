@@ -1,5 +1,0 @@
-use Rattle.nfer_cli.proofs.FollowTextLemmas.{follow_text-is}
-use Rattle.nfer_cli.proofs.laws.follow_text_is_one_change_after_another.Goals as goal
-
-pub returns : goal.returns
-returns c = follow_text-is
