@@ -1,1 +1,4 @@
+pub mod FollowerLemmas
+pub mod PrintedLemmas
 pub mod ReadLemmas
+pub mod WideLemmas

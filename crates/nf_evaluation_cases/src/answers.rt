@@ -1,9 +1,11 @@
 //! What can be asked by rows.
 
+use crate::announcing::{announced_answer, printed_answer};
 use crate::collections::{call_answers, order_answer};
 use crate::events::step_answers;
 use crate::expressions::value_answer;
 use crate::faults::fault_answer;
+use crate::following::{fed_answer, finished_answer, session_answer};
 use crate::given::{Given, number_of};
 pub use crate::lines::lines_answer;
 use crate::lines::{length_answer, row_answer, taken_answer};
@@ -23,7 +25,8 @@ use std::alloc::Global;
 ///   `levels`, `text` (calls of collections);
 /// - each row by itself: `time`, `value`, `fields MARK`, `slice FROM TO`, `walk` (texts), `lines`,
 ///   `taken`, `length N`, `row NAME` (lines), `relation`, `order` (two intervals), `eval` (an
-///   expression over the members), `printed` (a fault).
+///   expression over the members), `printed` (a fault), `print` (items as announcement lines), `read` (a
+///   line that may announce), `fed`, `fed NAME`, `finished` (pieces of a trace), `session` (a whole one).
 pub fn answers(
     rt: &HostRuntime,
     asked: &str,
@@ -83,6 +86,11 @@ fn answer(
         "order" => order_answer(alloc, row),
         "eval" => value_answer(alloc, given.first, given.second, row),
         "printed" => fault_answer(alloc, row),
+        "print" => printed_answer(alloc, &given.plan(alloc)?, row),
+        "read" => announced_answer(alloc, &given.plan(alloc)?, row.as_bytes()),
+        "fed" => fed_answer(alloc, given, rest, row),
+        "finished" => finished_answer(alloc, given, row),
+        "session" => session_answer(alloc, given, row),
         _ => Err(Stopped(Wrong::Unknown)),
     }
 }

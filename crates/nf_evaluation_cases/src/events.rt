@@ -3,11 +3,13 @@
 ghost use Rattle.std.specs.Prelude.{◌≡◌, ◌<◌, length, IfOk};
 ghost use Rattle.nf_core.specs.Plan.{keys_of};
 
+use crate::announcing::{change_lines, lines_shown};
 use crate::answers::push_item;
 use crate::building::build_answer;
 use crate::given::Given;
 use crate::intervals::{cell_of, interval_over, push_cell, times_shown};
 use crate::stopped::{FORM, Stopped};
+use nf_announce::write_held;
 use nf_core::{Change, Interval, NamedList, Plan, Row, Steps};
 use nf_model::{Inferer, Scratch};
 use std::alloc::Global;
@@ -15,7 +17,9 @@ use std::marker::Brand;
 use std::sync::ledger::{Blank, Ledger};
 
 /// Events, `NAME TIMES KEY=VALUE ..`, one after the other, and what the heads lose and gain by each;
-/// `held NAME`, the held intervals of a name; and `build FIRST & SECOND`, what the first rule builds.
+/// `write NAME TIMES KEY=VALUE ..`, the announcement lines of that change; `held NAME`, the held intervals
+/// of a name; `shown`, the lines of all held intervals of heads; and `build FIRST & SECOND`, what the first
+/// rule builds.
 pub fn step_answers(
     alloc: Global,
     given: &Given<'_>,
@@ -58,6 +62,7 @@ fn run<I: Inferer + Drop, L: Ledger>(
         match row.split_once(' ') {
             Some(("held", name)) => found.push(held_shown(alloc, plan, &inferer, name)?)?,
             Some(("build", text)) => found.push(build_answer(alloc, plan, text, steps)?)?,
+            None => found.push(all_shown(alloc, plan, &inferer, row)?)?,
             _ => {
                 let (next, answer) = enter(alloc, plan, inferer, row, steps)?;
                 inferer = next;
@@ -68,7 +73,22 @@ fn run<I: Inferer + Drop, L: Ledger>(
     Ok(found)
 }
 
-// Enters an event, and shows the change.
+// The lines of all held intervals of heads, for the row `shown`.
+fn all_shown<I: Inferer>(
+    alloc: Global,
+    plan: &Plan,
+    inferer: &I,
+    row: &str,
+) -> Result<String, Stopped>
+    requires { (I.content inferer.now).plan ≡ plan.now }
+{
+    if row != "shown" {
+        return Err(FORM);
+    }
+    lines_shown(alloc, &write_held(alloc, plan, inferer)?)
+}
+
+// Enters an event, and shows the change, by its lines where it is to be written.
 fn enter<I: Inferer + Drop, L: Ledger>(
     alloc: Global,
     plan: &Plan,
@@ -79,11 +99,20 @@ fn enter<I: Inferer + Drop, L: Ledger>(
     requires { (I.content inferer).plan ≡ plan.now }
     ensures { IfOk result (λ r. (I.content r.0).plan ≡ plan.now) }
 {
-    let (name, rest) = row.split_once(' ').ok_or(FORM)?;
+    let event = row.strip_prefix("write ").unwrap_or(row);
+    let (name, rest) = event.split_once(' ').ok_or(FORM)?;
     let name = plan.find(name).ok_or(FORM)?;
+    if plan.is_wide(name) {
+        return Err(FORM);
+    }
     let interval = member_of(alloc, plan, name, rest)?;
     let (next, change) = inferer.step(alloc, name, interval, steps)?;
-    Ok((next, change_shown(alloc, plan, &change)?))
+    let answer = if row.starts_with("write ") {
+        change_lines(alloc, plan, &change)?
+    } else {
+        change_shown(alloc, plan, &change)?
+    };
+    Ok((next, answer))
 }
 
 /// The interval of a name of a plan that a text spells: its times, and the cells of the name's keys.
@@ -164,8 +193,8 @@ pub fn member_shown(
     Ok(out)
 }
 
-// The held intervals of a name.
-fn held_shown<I: Inferer>(
+/// The held intervals of a name.
+pub fn held_shown<I: Inferer>(
     alloc: Global,
     plan: &Plan,
     inferer: &I,

@@ -23,6 +23,7 @@ fn trace_fault_answer(alloc: Global, row: &str) -> Result<String, Stopped> {
         "trace not text" => TraceFault::Line(7, LineFault::NotText),
         "trace fields" => TraceFault::Line(7, LineFault::Fields),
         "trace time" => TraceFault::Line(7, LineFault::Time),
+        "trace span" => TraceFault::Line(7, LineFault::Span),
         "trace key" => TraceFault::Line(7, LineFault::Key),
         "trace counts" => TraceFault::Line(7, LineFault::Counts),
         "trace order" => TraceFault::Order {

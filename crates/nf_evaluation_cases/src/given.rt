@@ -1,6 +1,7 @@
 //! What a case gives.
 
 use crate::stopped::{FORM, Stopped};
+use crate::wide::wide_plan;
 use nf_cases::{Directive, lines_of};
 use nf_core::Plan;
 use nf_io::{CallList, FileMap};
@@ -15,6 +16,7 @@ pub struct Given<'a> {
     pub first: &'a str,
     pub second: &'a str,
     pub full: bool,
+    pub wide: bool,
     pub most: usize,
     pub room: usize,
     rules: &'a [u8],
@@ -31,6 +33,7 @@ impl<'a> Given<'a> {
             first: "0",
             second: "",
             full: false,
+            wide: false,
             most: 64,
             room: 64,
             rules: b"",
@@ -48,6 +51,7 @@ impl<'a> Given<'a> {
             "first" => self.first = rest,
             "second" => self.second = rest,
             "full" => self.full = true,
+            "wide" => self.wide = true,
             "most" => self.most = number_of(rest)?,
             "room" => self.room = number_of(rest)?,
             "rules" => self.rules = directive.text.as_slice(),
@@ -58,8 +62,11 @@ impl<'a> Given<'a> {
         Ok(true)
     }
 
-    /// The plan of the rules.
+    /// The plan of the rules, or the one with a wide name.
     pub fn plan(&self, alloc: Global) -> Result<Plan, Stopped> {
+        if self.wide {
+            return wide_plan(alloc);
+        }
         let mut sources = SourceList::new(alloc);
         sources.add(self.rules)?;
         if sources.len() > u32::MAX as usize {

@@ -12,7 +12,8 @@ use nf_line::{CutFault, Liner, RawLine};
 use std::alloc::Global;
 
 /// What the lines of bytes are, in every cutting into two pieces, and byte by byte: `-` where one is
-/// empty, its fault, or its name, time and pairs. Where a cutting gives others, it is these.
+/// empty, its fault, or its name, its time or its begin and end, and its pairs. Where a cutting gives
+/// others, it is these.
 pub fn lines_answer(alloc: Global, bytes: &[u8], between: &str) -> Result<String, Stopped> {
     let whole = lines_of(alloc, b"", bytes, 1, between)?;
     for place in 0..bytes.len() {
@@ -96,7 +97,10 @@ fn line_shown(alloc: Global, line: &[u8]) -> Result<String, Stopped>
 }
 
 fn accepted_shown(alloc: Global, line: &RawLine<'_>) -> Result<String, Stopped> {
-    let mut out = format!(in alloc; "{}@{}", line.name(), line.time())?;
+    let mut out = format!(in alloc; "{}@{}", line.name(), line.start())?;
+    if line.start() != line.time() {
+        write!(out, "-{}", line.time())?;
+    }
     for (key, value) in line.pairs() {
         write!(out, " {key}={value}")?;
     }

@@ -1,5 +1,5 @@
-//! The program of cases of the evaluation: texts, the outside, lines, relations, expressions, results
-//! and the slow evaluator, by a table on standard input.
+//! The program of cases of the evaluation: texts, the outside, lines, relations, expressions, results,
+//! the slow evaluator, announcements and sessions, by a table on standard input.
 //!
 //! A case gives what calls are made over, and rows `ASKED => WANTED` of what is asked and must come.
 //!
@@ -8,6 +8,7 @@
 //! | `file NAME` and a text | a file of a shelf; the last one of a name counts |
 //! | `most N`, `room N`, `fails 3 5` | at most N bytes a call, the room of a sink's buffer, the calls that fail |
 //! | `rules` and a text | a specification, whose plan is meant |
+//! | `wide` | in its place the plan of `|1 :- a before b` and `w :- |1`, which no text gives |
 //! | `full` | every candidate is held |
 //! | `first I`, `second I` | the members of an expression |
 //! | `within` and lines | what `each` tries, with `@` for what a row asks |
@@ -19,12 +20,14 @@
 //! good and none differs.
 #![tactic(auto)]
 
+mod announcing;
 mod answers;
 mod building;
 mod collections;
 mod events;
 mod expressions;
 mod faults;
+mod following;
 mod given;
 mod intervals;
 mod lines;
@@ -34,6 +37,7 @@ mod relations;
 mod running;
 mod stopped;
 mod texts;
+mod wide;
 
 use nf_cases::{BadTable, Report, read_table, tell};
 use running::run_case;

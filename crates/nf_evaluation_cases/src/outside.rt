@@ -70,8 +70,9 @@ pub fn done_shown(alloc: Global, done: Result<(), Failed>) -> Result<String, Sto
     Ok(String::from_str(alloc, word)?)
 }
 
-// A sink that says what it took.
-trait Kept: Sink {
+/// A sink that says what it took.
+pub trait Kept: Sink {
+    /// What was taken, where it is told.
     fn kept(&self) -> Option<&[u8]>;
 }
 
@@ -138,8 +139,8 @@ pub fn sink_answer<O: Sink>(alloc: Global, sink: &mut O, row: &str) -> Result<St
     }
 }
 
-// What a sink took, or `untold`.
-fn kept_shown(alloc: Global, bytes: Option<&[u8]>) -> Result<String, Stopped> {
+/// What a sink took, or `untold`.
+pub fn kept_shown(alloc: Global, bytes: Option<&[u8]>) -> Result<String, Stopped> {
     match bytes {
         Some(bytes) => {
             let text = str::from_utf8(bytes).map_err(|_| FORM)?;

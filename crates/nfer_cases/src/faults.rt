@@ -1,15 +1,16 @@
 //! The calls that a run makes, and what must come where one of them fails.
 //!
 //! A command picks its files in the order of its words, and reads each to its end before the next: the
-//! files of the specification, and then, under `follow`, the trace `-`. A file is read by calls of at
-//! most so many bytes, until one gives none. Refused words make no call, a refused specification is
-//! read whole and no trace is, and a refused trace is read up to the end of the refused line; a file
-//! that isn't there is the last one that is picked.
+//! files of the specification, and then the trace: `-` under `follow`, the file of the last word under
+//! `infer`. A file is read by calls of at most so many bytes, until one gives none. Refused words make
+//! no call, a refused specification is read whole and no trace is, and a refused trace is read up to
+//! the end of the refused line; a file that isn't there is the last one that is picked.
 //!
 //! - Where a call of the shelf fails, the status is 4, the message names the file word, and written is
-//!   what the trace lines announce that ended in the bytes read.
+//!   what the trace lines announce that ended in the bytes read; under `infer` that is nothing.
 //! - Where a call of the output fails, the status is 5, and written are the bytes of the calls before it.
-//!   The announcements of a line, and what `check` prints, are written by calls of at most so many bytes.
+//!   The announcements of a line, what `check` prints and what `infer` shows are written by calls of at
+//!   most so many bytes.
 //! - Where a call of the message fails, which takes one byte a call here, nothing else changes.
 //!
 //! Not told here: a specification that is too long, and a trace line that is.
@@ -21,12 +22,12 @@ use std::alloc::{AllocError, Global};
 // The most bytes that one read asks for.
 const PIECE: usize = 65_536;
 
-/// A call of the shelf: the file that it picks or reads, whether it is the trace, and how many bytes of
-/// it were read before.
+/// A call of the shelf: the file that it picks or reads, whether its lines are announced, and how many
+/// bytes of it were read before.
 #[derive(Debug, Clone, Copy)]
 pub(crate) struct ReadCall<'a> {
     pub file: &'a File,
-    pub is_trace: bool,
+    pub is_followed: bool,
     pub read: usize,
 }
 
@@ -48,16 +49,31 @@ pub(crate) fn read_calls<'a>(
         add_calls(&mut calls, file, false, None, most)?;
     }
     if let Some(file) = trace_of(trial) {
-        add_calls(&mut calls, file, true, refused_line(trial), most)?;
+        let is_followed = is_command(trial.words.as_slice(), "follow");
+        add_calls(&mut calls, file, is_followed, refused_line(trial), most)?;
     }
     Ok(calls)
 }
 
-// The file words of a specification: those behind the command and its options.
+// Whether the first word is a command.
+fn is_command(words: &[String], command: &str) -> bool {
+    match words.first() {
+        Some(word) => word.as_str() == command,
+        None => false,
+    }
+}
+
+// The file words of a specification: those behind the command and its options, without the last word
+// of `infer`, which is the trace.
 fn specification_words<'a>(alloc: Global, words: &'a [String]) -> Result<Vec<&'a str>, AllocError> {
     let mut files = Vec::new(alloc);
     let mut is_name = false;
-    for word in words.iter().skip(1) {
+    let end = if is_command(words, "infer") {
+        words.len().saturating_sub(1)
+    } else {
+        words.len()
+    };
+    for word in words.iter().take(end).skip(1) {
         if is_name || word.as_str().starts_with('-') {
             is_name = word.as_str() == "--module";
         } else {
@@ -71,14 +87,19 @@ fn file_named<'a>(trial: &'a Trial, name: &str) -> Option<&'a File> {
     trial.files.iter().find(|file| file.name.as_str() == name)
 }
 
-// The trace that a run follows: none where it runs another command or the specification is refused.
+// The trace of a run: none where it runs another command or the specification is refused.
 fn trace_of(trial: &Trial) -> Option<&File> {
-    let command = trial.words.first()?;
-    if command.as_str() == "follow" && trial.status != 2 {
-        file_named(trial, "-")
-    } else {
-        None
+    let words = trial.words.as_slice();
+    if trial.status == 2 {
+        return None;
     }
+    if is_command(words, "follow") {
+        return file_named(trial, "-");
+    }
+    if is_command(words, "infer") {
+        return file_named(trial, words.last()?.as_str());
+    }
+    None
 }
 
 // The number of the trace line that is refused, as the message tells it.
@@ -95,7 +116,7 @@ fn refused_line(trial: &Trial) -> Option<u64> {
 fn add_calls<'a>(
     calls: &mut Vec<ReadCall<'a>>,
     file: &'a File,
-    is_trace: bool,
+    is_followed: bool,
     refused: Option<u64>,
     most: usize,
 ) -> Result<(), AllocError> {
@@ -103,7 +124,7 @@ fn add_calls<'a>(
     let end = refused.and_then(|line| end_of_line(bytes, line));
     let mut call = ReadCall {
         file,
-        is_trace,
+        is_followed,
         read: 0,
     };
     calls.push(call)?;
@@ -141,7 +162,7 @@ pub(crate) fn written_before_read(
     trial: &Trial,
     call: &ReadCall<'_>,
 ) -> Result<Vec<u8>, AllocError> {
-    if !call.is_trace {
+    if !call.is_followed {
         return Ok(Vec::new(alloc));
     }
     let bytes = call.file.bytes.as_slice();

@@ -17,7 +17,7 @@
 //! - `each words` runs the case with the words of each line of its text.
 //! - `each read N to M` and `each write N to M` run it with each of these numbers of bytes a call.
 //! - `each fault` runs it with each call of the shelf, of the output and of the message failing in turn,
-//!   and then with none; `faults` says what must come then. What a trace announces has to stand line by
+//!   and then with none; `faults` says what must come then. What `follow` announces has to stand line by
 //!   line for it.
 //!
 //! The first line of `trace`, `output` and `message` may stand in the directive, as in
