@@ -25,7 +25,7 @@ use Rattle.nf_announce.proofs.Public.DistinctItemLemmas.{each_weaker}
 use Rattle.nf_announce.proofs.PlainByteLemmas.{HasPlainBytes, IsName, small, number_plain}
 use Rattle.nf_announce.proofs.Public.LineBackLemmas.{Without, bars, joined_each, among, values_plain, present_keys, present_values, grouped, name_at, same_name, key_names, names_unbarred, signed_back}
 use Rattle.nf_announce.proofs.LineTextLemmas.{sign_ascii, behind_byte, keys_utf8, row_utf8, line_utf8}
-use Rattle.nf_announce.proofs.SpellingLemmas.{fits_i64}
+use Rattle.nf_core.proofs.Public.NumberLemmas.{fits_i64}
 use Rattle.nf_announce.proofs.SplitTextLemmas.{one_field, first_field, fields_unmarked, fields_joined}
 use Rattle.nf_announce.proofs.RowTextLemmas.{firsts, seconds, printed_pairs, pairs_text}
 

@@ -6,20 +6,13 @@ use Rattle.nf_core.specs.Texts.{IsI64, IsPlain}
 use Rattle.nf_core.specs.declared.values.Value.{Value}
 use Rattle.nf_core.specs.declared.values.Value.TheVariants as v
 use Rattle.std.proofs.lemmas.Int.{to_z-of_z}
+use Rattle.nf_core.proofs.Public.NumberLemmas.{i64_fits, fits_i64}
 use Rattle.nf_text.specs.declared.value.Read as read
 use Rattle.nf_text.specs.declared.value.Read.TheVariants as variant
 use Rattle.nf_text.specs.Value.{Spelling, Truth, Whole, Words, spelling, spelling_of}
 use Rattle.nf_announce.specs.Announcements.{text_of_value}
 use Rattle.nf_announce.specs.inner.LineParts.{IsSpelled}
 use Rattle.nf_announce.specs.inner.RowTexts.{IsSpelling}
-
-i64_fits : (n : ℤ) → FitsSigned w64 n → IsI64 n
-i64_fits (pos n) h = record { low = search (rules, tests); high = search (rules, tests, h.sfits) }
-i64_fits (negsuc n) h = record { low = search (rules, tests, h.sfits); high = search (rules, tests) }
-
-pub fits_i64 : (n : ℤ) → IsI64 n → FitsSigned w64 n
-fits_i64 (pos n) h = record { sfits = search (rules, tests, h.high) }
-fits_i64 (negsuc n) h = record { sfits = search (rules, tests, h.low) }
 
 -- what is known of numbers
 pub record AreNumbers : Type 0 where

@@ -49,7 +49,7 @@ pub use operators::{BinOp, Op, Xop};
 pub use plan_levels::Levels;
 pub use plans::Plan;
 pub use rows::Row;
-pub use sets::{Held, IntervalSet};
+pub use sets::{Held, IntervalSet, Part};
 pub use steps::Steps;
 pub use terms::{Link, PlanEntry, PlanEntryList, PlanRule, Term};
 pub use texts::Text;

@@ -1,7 +1,9 @@
 //! Sorted sets of intervals.
 
-ghost use Rattle.std.specs.Prelude.{◌≡◌, [], not, IfOk, OnOk, OnErr};
-ghost use Rattle.std.specs.Iterator.{YieldsFirstRef, item_count};
+ghost use Rattle.std.specs.Prelude.{◌≡◌, [], not, filter, IfOk, OnOk, OnErr};
+ghost use Rattle.std.specs.Iterator.{YieldsFirstRef, YieldsLastRef, item_count};
+ghost use Rattle.std.specs.BTreeMap.Range.{IsLeBy, IsLtBy, range_contains};
+ghost use Rattle.nf_core.specs.Intervals.{interval_cmp};
 ghost use Rattle.nf_core.specs.Sets.{IsSet, has, inserted, removed};
 
 use crate::errors::NoMemory;
@@ -9,6 +11,7 @@ use crate::intervals::Interval;
 use std::alloc::Global;
 use std::collections::{BTreeSet, btree_set};
 use std::marker::Model;
+use std::ops::RangeBounds;
 
 /// A sorted list of intervals, each once. Contracts see that list.
 #[derive(Debug, Drop)]
@@ -73,6 +76,18 @@ impl IntervalSet {
             rest: self.set.iter(),
         }
     }
+
+    /// The intervals between two bounds, as borrowed, ascending, from either end. Takes no memory.
+    pub fn range<R: RangeBounds<Interval> + Drop>(&self, range: R) -> Part<'_>
+        requires { R.is_forward range (IsLeBy interval_cmp) (IsLtBy interval_cmp) }
+        ensures between { R.has_bounds range → result ≡ filter
+            (range_contains interval_cmp (R.start_bound range) (R.end_bound range)) self.now }
+        ensures sorted { IsSet self.now }
+    {
+        Part {
+            rest: self.set.range(range),
+        }
+    }
 }
 
 /// Walks a sorted list of intervals as borrows, ascending. Contracts see the intervals that are
@@ -100,5 +115,41 @@ impl<'a> Iterator for Held<'a> {
 
     fn next(&mut self) -> Option<&'a Interval> {
         self.rest.next()
+    }
+}
+
+/// Walks a part of a sorted list of intervals as borrows, ascending, from either end. Contracts see
+/// the intervals that are left.
+#[derive(Drop)]
+pub struct Part<'a> {
+    rest: btree_set::Range<'a, Interval>,
+}
+
+impl<'a> Model for Part<'a> {
+    ghost use Rattle.std.specs.Prelude.{List};
+    ghost use Rattle.nf_core.specs.Intervals as interval;
+
+    ghost Value = { List interval.Interval };
+
+    ghost view = { λ p. p.rest };
+}
+
+impl<'a> Iterator for Part<'a> {
+    type Item = &'a Interval;
+
+    ghost next_gives = { YieldsFirstRef (λ p. p) };
+
+    ghost remaining = { item_count (λ p. p) };
+
+    fn next(&mut self) -> Option<&'a Interval> {
+        self.rest.next()
+    }
+}
+
+impl<'a> DoubleEndedIterator for Part<'a> {
+    ghost next_back_gives = { YieldsLastRef (λ p. p) };
+
+    fn next_back(&mut self) -> Option<&'a Interval> {
+        self.rest.next_back()
     }
 }

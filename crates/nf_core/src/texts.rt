@@ -1,7 +1,8 @@
 //! Texts.
 
 ghost use Rattle.std.specs.Prelude.{◌≡◌, IfOk, Some, refl};
-ghost use Rattle.std.specs.Cmp.Rules.{comparing};
+ghost use Rattle.std.specs.Cmp.Rules.{comparing, hashing};
+ghost use Rattle.std.specs.Hash as fed;
 ghost use Rattle.std.proofs.Common.{rules};
 ghost use Rattle.std.specs.String.{string_bytes};
 ghost use Rattle.nf_core.specs.Texts.{text_cmp, text_eq};
@@ -10,6 +11,7 @@ use crate::copies::TryCopy;
 use crate::errors::NoMemory;
 use std::alloc::Global;
 use std::cmp::Ordering;
+use std::hash::{Hash, Hasher};
 use std::marker::Model;
 
 /// A text: bytes that are UTF-8. Contracts see its bytes.
@@ -70,6 +72,16 @@ impl PartialEq for Text {
 
 impl Eq for Text {
     ghost laws = { Prim.search (comparing, rules) };
+}
+
+impl Hash for Text {
+    ghost hash_input = { fed.str };
+
+    ghost respects_eq = { Prim.search (hashing, rules) };
+
+    fn hash<H: Hasher>(&self, state: &mut H) {
+        self.as_str().hash(state);
+    }
 }
 
 impl PartialOrd for Text {

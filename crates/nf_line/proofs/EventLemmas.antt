@@ -11,6 +11,7 @@ use Rattle.std.proofs.lemmas.List.Elements.{All-nil, All-cons, All-from_recursio
 use Rattle.nf_core.specs.Texts.{IsI64, IsPlain, IsPlainByte}
 use Rattle.nf_core.specs.declared.values.Value.{Value}
 use Rattle.nf_core.specs.declared.values.Value.TheVariants as v
+use Rattle.nf_core.proofs.Public.NumberLemmas.{i64_fits}
 use Rattle.nf_text.specs.Fields.{fields_of}
 use Rattle.nf_text.specs.Time.{is_time}
 use Rattle.nf_text.specs.Value.{Spelling, Truth, Whole, Words, spelling_of, is_words, is_separator}
@@ -29,10 +30,6 @@ pub record AreSpelled : Type 0 where
   pub words : (text : List ℕ) → All IsPlainByte text → is_words (spelling_of text) ≡ true → IsPlain text
   pub within : (text : List ℕ) (n : ℤ) → spelling_of text ≡ Whole n → FitsSigned w64 n
   pub given : (text found : List ℕ) → spelling_of text ≡ Words found → found ≡ text
-
-i64_fits : (n : ℤ) → FitsSigned w64 n → IsI64 n
-i64_fits (pos n) h = record { low = search (rules, tests); high = search (rules, tests, h.sfits) }
-i64_fits (negsuc n) h = record { low = search (rules, tests, h.sfits); high = search (rules, tests) }
 
 int_back : (x : Value) → ℤ → ℤ
 int_back (v.Int n) d = n

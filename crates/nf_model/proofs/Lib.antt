@@ -6,7 +6,6 @@ pub mod PoolLemmas
 pub mod EvaluationLemmas
 pub mod HeadLemmas
 pub mod EntryLemmas
-pub mod PlaceLemmas
 pub mod CellLemmas
 pub mod EmptyInputLemmas
 pub mod ContentLemmas

@@ -1,5 +1,7 @@
 -- Lemmas that the crates above cite.
+pub mod LackingLemmas
 pub mod LevelLemmas
 pub mod ChangeLemmas
 pub mod InputLemmas
+pub mod PlaceLemmas
 pub mod WorkLemmas

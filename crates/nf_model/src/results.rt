@@ -15,7 +15,7 @@ use std::alloc::Global;
 use std::sync::ledger::Ledger;
 
 /// What a rule with one atom gives from an interval.
-#[tactic(auto, using(crate::proofs::PlaceLemmas::filter_read, crate::proofs::PlaceLemmas::result_read), unfolding(crate::specs::Results::of_one, crate::specs::Results::built_by))]
+#[tactic(auto, using(crate::proofs::Public::PlaceLemmas::filter_read, crate::proofs::Public::PlaceLemmas::result_read), unfolding(crate::specs::Results::of_one, crate::specs::Results::built_by))]
 fn one_result<L: Ledger>(
     alloc: Global,
     rule: &PlanRule,
@@ -34,7 +34,7 @@ fn one_result<L: Ledger>(
 }
 
 /// What an inclusive rule gives from a pair.
-#[tactic(auto, using(crate::proofs::PlaceLemmas::filter_read, crate::proofs::PlaceLemmas::result_read), unfolding(crate::specs::Results::of_pair, crate::specs::Results::built_by))]
+#[tactic(auto, using(crate::proofs::Public::PlaceLemmas::filter_read, crate::proofs::Public::PlaceLemmas::result_read), unfolding(crate::specs::Results::of_pair, crate::specs::Results::built_by))]
 fn pair_result<L: Ledger>(
     alloc: Global,
     rule: &PlanRule,

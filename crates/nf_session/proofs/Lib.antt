@@ -8,7 +8,6 @@ pub mod PassLemmas
 pub mod FeedLemmas
 pub mod EventLemmas
 pub mod LastLemmas
-pub mod SameIntervalLemmas
 pub mod ReplayedLineLemmas
 pub mod ShownLineLemmas
 pub mod ReplayedTextLemmas

@@ -20,7 +20,7 @@ use Rattle.nf_announce.proofs.Public.OrderedListLemmas.{put, sum_all}
 use Rattle.nf_announce.proofs.Public.AnnouncementOrderLemmas.{placed_is}
 use Rattle.nf_announce.proofs.Public.DistinctItemLemmas.{Apart, each_weaker, each_append, each_map, apart_filter, apart_append, apart_map, apart_sorted, range_apart}
 use Rattle.nf_announce.proofs.Public.LineBackLemmas.{line_back}
-use Rattle.nf_session.proofs.SameIntervalLemmas.{exchanged, lacking_fewer}
+use Rattle.nf_model.proofs.Public.LackingLemmas.{exchanged, lacking_fewer}
 use Rattle.nf_session.proofs.ReplayedLineLemmas.{hit, times}
 
 -- sums

@@ -7,6 +7,7 @@ use Rattle.std.proofs.lemmas.List.Elements.{All-from_recursion, recursion_from_A
 use Rattle.std.proofs.lemmas.Bool.{and_parts, and_from}
 use borrow.Author.Tests.{ne_eqb}
 use Rattle.nf_core.specs.Texts.{IsI64, IsPlainByte, IsPlain}
+use Rattle.nf_core.proofs.Public.NumberLemmas.{fits_i64, i64_fits}
 use Rattle.nf_text.specs.Value.{Spelling, Truth, Whole, Words, spelling_of, is_words, is_separator, is_plain}
 use Rattle.nf_text.proofs.SpellingLemmas.{printed_spelling, spelled_whole, whole_canonical, spelled_truth, spelled_false}
 use Rattle.std.proofs.lemmas.Slice.Eq.{bytes_eq-Decides}
@@ -41,15 +42,6 @@ plain_bytes text h = All-from_recursion IsPlainByte text (plain_each text h)
 
 pub no_separators : (text : List ℕ) → All IsPlainByte text → list_any is_separator text ≡ false
 no_separators text h = none_each text (recursion_from_All IsPlainByte text h)
-
--- a number that a value may have is one that 64 bits hold
-fits_i64 : (n : ℤ) → IsI64 n → FitsSigned w64 n
-fits_i64 (pos n) h = record { sfits = search (rules, tests, h.high) }
-fits_i64 (negsuc n) h = record { sfits = search (rules, tests, h.low) }
-
-i64_fits : (n : ℤ) → FitsSigned w64 n → IsI64 n
-i64_fits (pos n) h = record { low = search (rules, tests); high = search (rules, tests, h.sfits) }
-i64_fits (negsuc n) h = record { low = search (rules, tests, h.sfits); high = search (rules, tests) }
 
 -- a spelling that is just bytes is no number and no truth value
 words_apart : (given : Spelling) (n : ℤ) → given ≡ Whole n → is_words given ≡ true → ⊥

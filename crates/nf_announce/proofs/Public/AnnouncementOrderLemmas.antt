@@ -5,14 +5,10 @@ use Rattle.std.specs.declared.cmp.Ordering.TheVariants.{Less, Equal, Greater}
 use Rattle.std.specs.Ordering.{ordering_then, is_gt}
 use Rattle.std.specs.List.Sorted.{IsSorted, IsPermutation}
 use Rattle.std.proofs.lemmas.Map.Lookups.{exact_bytes, exact_signed}
+use Rattle.nf_core.proofs.Public.SameIntervalLemmas.{both_equal}
 use Rattle.nf_announce.specs.Announcements.{Announcement, announcement_cmp, placed, in_order}
 use Rattle.nf_announce.specs.inner.AnnouncementOrder.{announcement_cmp_total}
 use Rattle.nf_announce.proofs.Public.OrderedListLemmas.{put, sorted_is_ordered}
-
-pub both_equal : (o p : Ordering) → ordering_then o p ≡ Equal → (o ≡ Equal) × (p ≡ Equal)
-both_equal Less p e = absurd cc
-both_equal Equal p e = (refl, e)
-both_equal Greater p e = absurd cc
 
 -- equal announcements are the same
 exact : (a b : Announcement) → announcement_cmp a b ≡ Equal → a ≡ b

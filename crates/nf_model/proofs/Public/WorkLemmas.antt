@@ -14,6 +14,7 @@ use Rattle.nf_core.specs.declared.operators.Xop.{Xop}
 use Rattle.nf_core.specs.declared.terms.Link.{Link}
 use Rattle.nf_core.specs.declared.terms.Link.TheVariants.{One, Pair, Unless}
 use Rattle.nf_core.specs.declared.terms.PlanRule.{PlanRule}
+use Rattle.nf_core.proofs.Public.SameIntervalLemmas.{same_is}
 use Rattle.nf_model.specs.Changes.{lacking}
 use Rattle.nf_model.specs.Results.{faces}
 use Rattle.nf_model.specs.Work.{Sides, Pairing, pairs_of, pairs_where, pairs_by, is_among, pairs_lost, touched, differing, made_anew, values, clauses, rule_work}
@@ -81,8 +82,8 @@ module _ (weight : Pairing → ℕ) where
       ∙ ap (λ n. sum_by (λ j. cond (test x j) (weight (record { first = x; second = Some j })) 0) ys + n) (where_sum test xs ys)
       ∙ sym (sum_by-cons (λ i. sum_by (λ j. cond (test i j) (weight (record { first = i; second = Some j })) 0) ys) x xs)
 
--- ---- which pairs are among those that pass a test. Intervals that are the same are equal
-module _ (exact : (i j : Interval) → same i j ≡ true → i ≡ j) (test : Interval → Interval → Bool) where
+-- ---- which pairs are among those that pass a test
+module _ (test : Interval → Interval → Bool) where
   among_row : (x i j : Interval) (ys : List Interval) → test i j ≡ true
       → is_among (pairs_of x (filter (test x) ys)) (record { first = i; second = Some j }) ≡ (same i x && has ys j)
   among_row x i j ys passes =
@@ -96,7 +97,7 @@ module _ (exact : (i j : Interval) → same i j ≡ true → i ≡ j) (test : In
       by : (b : Bool) → same i x ≡ b → list_any (λ y. b && same j y) (filter (test x) ys) ≡ (b && has ys j)
       by false e = none (filter (test x) ys)
       by true e =
-          any-filter_same (same j) (test x) true (λ y f. sym (ap (λ z. test z y) (exact i x e)) ∙ sym (ap (test i) (exact j y f)) ∙ passes) ys
+          any-filter_same (same j) (test x) true (λ y f. sym (ap (λ z. test z y) (same_is i x e)) ∙ sym (ap (test i) (same_is j y f)) ∙ passes) ys
 
   joined : (a b c : Bool) → ((a && c) || (b && c)) ≡ ((a || b) && c)
   joined true true true = refl
@@ -180,14 +181,14 @@ work_of_one rule before now is =
     ∙ none_anew (touched (alone before.firsts) (alone now.firsts) * clauses rule) (values rule)
     ∙ ap (λ n. n * clauses rule) (alone_touched before.firsts now.firsts)
 
-module _ (exact : (i j : Interval) → same i j ≡ true → i ≡ j) (rule : PlanRule) (before now : Sides) where
+module _ (rule : PlanRule) (before now : Sides) where
   -- inclusive: the pairs of which the operator's condition holds, each times all clauses
   pub work_of_pair : (op : Op) (n : ℕ) → rule.link ≡ Pair op n → rule_work rule before now ≡ touched_sum (weighed (meet op) (clauses rule)) before now
   unfolding rule_work
   work_of_pair op n is =
       ap (λ (link : Link). touched (pairs_by rule link before) (pairs_by rule link now) * clauses rule + made_anew link before now * values rule) is
       ∙ none_anew (touched (pairs_where (meet op) before) (pairs_where (meet op) now) * clauses rule) (values rule)
-      ∙ touched_weighed exact (meet op) (clauses rule) before now
+      ∙ touched_weighed (meet op) (clauses rule) before now
 
   -- exclusive: the pairs of which the second one faces the first, each times all clauses, and each first interval that is in exactly one of the two lists, times those that make a result
   pub work_of_unless : (xop : Xop) (n : ℕ) → rule.link ≡ Unless xop n
@@ -195,4 +196,4 @@ module _ (exact : (i j : Interval) → same i j ≡ true → i ≡ j) (rule : Pl
   unfolding rule_work
   work_of_unless xop n is =
       ap (λ (link : Link). touched (pairs_by rule link before) (pairs_by rule link now) * clauses rule + made_anew link before now * values rule) is
-      ∙ ap (λ k. k + differing before.firsts now.firsts * values rule) (touched_weighed exact (faces xop (rule.first == n)) (clauses rule) before now)
+      ∙ ap (λ k. k + differing before.firsts now.firsts * values rule) (touched_weighed (faces xop (rule.first == n)) (clauses rule) before now)

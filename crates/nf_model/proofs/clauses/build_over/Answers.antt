@@ -1,7 +1,7 @@
 use Rattle.std.proofs.Common.{sym, subst, All}
 use Rattle.std.specs.Option.{option_copied}
 use Rattle.nf_model.specs.Members.{IsEntryOver}
-use Rattle.nf_model.proofs.PlaceLemmas.{entries_over, start_read, stop_read}
+use Rattle.nf_model.proofs.Public.PlaceLemmas.{entries_over, start_read, stop_read}
 use Rattle.nf_model.proofs.clauses.build_over.Goals as goal
 
 pub end_point-start-requires : goal.end_point-start-requires

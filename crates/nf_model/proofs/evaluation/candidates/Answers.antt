@@ -3,7 +3,7 @@ use Rattle.nf_core.specs.Plan.{IsRuleOf}
 use Rattle.nf_core.specs.declared.terms.PlanRule.{PlanRule}
 use Rattle.nf_model.specs.Pools.{of_name, results_over}
 use Rattle.nf_model.proofs.ListLemmas.{items_more, filtered_more, All-at}
-use Rattle.nf_model.proofs.PlaceLemmas.{read_of}
+use Rattle.nf_model.proofs.Public.PlaceLemmas.{read_of}
 use Rattle.nf_model.proofs.evaluation.candidates.Goals as goal
 
 pub loop-rule-preserved : goal.loop-rule-preserved

@@ -1,5 +1,5 @@
 use Rattle.std.proofs.Common.{Some}
-use Rattle.nf_model.proofs.PlaceLemmas.{filter_read}
+use Rattle.nf_model.proofs.Public.PlaceLemmas.{filter_read}
 use Rattle.nf_model.proofs.results.pair_result.Goals as goal
 
 pub is_met-requires-clause-places : goal.is_met-requires-clause-places

@@ -1,5 +1,6 @@
 -- The rows of a plan's intervals have every place that its rules read.
 use Rattle.std.proofs.Common.{◌≡◌, ℕ, List, [], ◌∷◌, ◌++◌, length, map, Option, Some, None, option_to_list, All, IsTrue, ap, sym, ◌∙◌, subst, refl}
+use Rattle.std.specs.Prelude.{⊤}
 use Rattle.std.proofs.lemmas.List.Elements.{All-head, All-tail, All-nil, All-cons, All-append, All-map, All-weaker}
 use Rattle.nf_core.specs.Expressions.{reads_within, widths_of}
 use Rattle.nf_core.specs.Intervals.{Interval}
@@ -77,6 +78,12 @@ module _ (i : Interval) (second : Option Interval) where
   rule_read plan rule valid body result_widths =
       All-append Reads (option_to_list rule.filter) (result_terms rule) (rule_filter_read plan rule valid body) (rule_result_read plan rule valid result_widths)
 
+-- the rows of some intervals have a cell for each key of a link's second name
+abbrev pub AreOfSecond : Plan → Link → List Interval → Type 0
+AreOfSecond plan One seconds = ⊤
+AreOfSecond plan (Pair op n) seconds = All (IsOfKeys plan n) seconds
+AreOfSecond plan (Unless xop n) seconds = All (IsOfKeys plan n) seconds
+
 module _ (plan : Plan) (rule : PlanRule) (valid : IsRuleOf plan rule) where
   abbrev width : ℕ → ℕ
   width n = length (keys_of plan n)
@@ -90,31 +97,40 @@ module _ (plan : Plan) (rule : PlanRule) (valid : IsRuleOf plan rule) where
       ap (λ m. m ∷ length j.row ∷ []) g ∙ ap (λ m. width rule.first ∷ m ∷ []) h ∙ ap (λ ns. widths_of_names plan (rule.first ∷ ns)) (sym is)
 
   -- the intervals of a rule's names have every place that it reads
-  read_by : (link : Link) → rule.link ≡ link → (lists : Inputs) → AreOfKeys plan lists
-      → HaveAllPlaces rule link (of_name lists rule.first) (second_of (of_name lists) link)
-  read_by One is lists rows =
+  read_by : (link : Link) → rule.link ≡ link → (firsts seconds : List Interval) → All (IsOfKeys plan rule.first) firsts → AreOfSecond plan link seconds
+      → HaveAllPlaces rule link firsts seconds
+  read_by One is firsts seconds rows others =
       All-weaker (IsOfKeys plan rule.first) (λ i. HavePlaces (clause_terms rule) i None)
       (λ i h. rule_read i None plan rule valid (of_one (second_name rule.link) (ap second_name is) i h) (of_one (joined_name rule.link) (ap joined_name is) i h))
-      (of_name lists rule.first) (rows rule.first)
-  read_by (Pair op n) is lists rows =
-      All-weaker (IsOfKeys plan rule.first) (λ i. All (λ j. HavePlaces (clause_terms rule) i (Some j)) (of_name lists n))
+      firsts rows
+  read_by (Pair op n) is firsts seconds rows others =
+      All-weaker (IsOfKeys plan rule.first) (λ i. All (λ j. HavePlaces (clause_terms rule) i (Some j)) seconds)
       (λ i g. All-weaker (IsOfKeys plan n) (λ j. HavePlaces (clause_terms rule) i (Some j))
       (λ j h. rule_read i (Some j) plan rule valid (of_two (second_name rule.link) n (ap second_name is) i j g h) (of_two (joined_name rule.link) n (ap joined_name is) i j g h))
-      (of_name lists n) (rows n))
-      (of_name lists rule.first) (rows rule.first)
-  read_by (Unless xop n) is lists rows = (
-    All-weaker (IsOfKeys plan rule.first) (λ i. All (λ j. HavePlaces (option_to_list rule.filter) i (Some j)) (of_name lists n))
+      seconds others)
+      firsts rows
+  read_by (Unless xop n) is firsts seconds rows others = (
+    All-weaker (IsOfKeys plan rule.first) (λ i. All (λ j. HavePlaces (option_to_list rule.filter) i (Some j)) seconds)
         (λ i g. All-weaker (IsOfKeys plan n) (λ j. HavePlaces (option_to_list rule.filter) i (Some j))
         (λ j h. rule_filter_read i (Some j) plan rule valid (of_two (second_name rule.link) n (ap second_name is) i j g h))
-        (of_name lists n) (rows n))
-        (of_name lists rule.first) (rows rule.first),
+        seconds others)
+        firsts rows,
     All-weaker (IsOfKeys plan rule.first) (λ i. HavePlaces (result_terms rule) i None)
         (λ i h. rule_result_read i None plan rule valid (of_one (joined_name rule.link) (ap joined_name is) i h))
-        (of_name lists rule.first) (rows rule.first),
+        firsts rows,
   )
 
+  -- whatever two lists these intervals stand in
+  pub read_of_lists : (firsts seconds : List Interval) → All (IsOfKeys plan rule.first) firsts → AreOfSecond plan rule.link seconds → HaveAllPlaces rule rule.link firsts seconds
+  read_of_lists firsts seconds rows others = read_by rule.link refl firsts seconds rows others
+
   pub read_of : (lists : Inputs) → AreOfKeys plan lists → HaveAllPlaces rule rule.link (of_name lists rule.first) (second_of (of_name lists) rule.link)
-  read_of lists rows = read_by rule.link refl lists rows
+  read_of lists rows = read_of_lists (of_name lists rule.first) (second_of (of_name lists) rule.link) (rows rule.first) (seconds_of rule.link)
+    where
+      seconds_of : (link : Link) → AreOfSecond plan link (second_of (of_name lists) link)
+      seconds_of One = tt
+      seconds_of (Pair op n) = rows n
+      seconds_of (Unless xop n) = rows n
 
   -- the same of two members of an exclusive rule
   pub unless_filter_read : (xop : Xop) (n : ℕ) → rule.link ≡ Unless xop n → (i j : Interval) → IsOfKeys plan rule.first i → IsOfKeys plan n j
