@@ -1,0 +1,4 @@
+mod DeltaLemmas
+mod NumberLemmas
+mod CarriedLemmas
+pub mod Public

@@ -1,0 +1,2 @@
+pub mod OftenLemmas
+pub mod LeadLemmas
