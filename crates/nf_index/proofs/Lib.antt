@@ -1,0 +1,9 @@
+pub mod PlaceLemmas
+pub mod FallLemmas
+pub mod IndexLemmas
+pub mod WindowLemmas
+pub mod AscentLemmas
+pub mod FirstEndLemmas
+pub mod WalkLemmas
+pub mod AskLemmas
+pub mod ForgetLemmas

@@ -1,0 +1,4 @@
+-- How the code works, no part of the meaning.
+pub mod Orders
+pub mod Windows
+pub mod Walks

@@ -1,0 +1,197 @@
+//! The store.
+
+ghost use Rattle.std.specs.Prelude.{◌≡◌, [], not, ◌&&◌, false, filter, int_lt, IfOk, OnOk, OnErr};
+ghost use Rattle.std.specs.List.Sorted.{IsPermutation};
+ghost use Rattle.nf_core.specs.Sets.{IsSet, has, inserted, removed};
+ghost use Rattle.nf_index.specs.Matching.{matches};
+ghost use Rattle.nf_index.specs.declared.times.Times as declared;
+ghost use Rattle.nf_index.specs.inner.Orders.{IsIndex, has_end, is_same_end};
+
+use crate::falls::{counted, counted_less, turns_at};
+use crate::matching::Matching;
+use crate::plans::walk_of;
+use crate::relations::{Rel, Which};
+use crate::times::{Times, own_times, with_times};
+use crate::windows::window_of;
+use nf_core::{Held, Interval, IntervalSet, NoMemory};
+use std::alloc::Global;
+use std::collections::BTreeSet;
+use std::marker::Model;
+
+/// The intervals of one name, each once, in two orders.
+#[derive(Debug, Drop)]
+pub struct Store {
+    alloc: Global,
+    begins: IntervalSet,
+    ends: BTreeSet<Times>,
+    falls: usize,
+}
+
+impl Model for Store {
+    ghost use Rattle.std.specs.Prelude.{List};
+    ghost use Rattle.nf_core.specs.Intervals as interval;
+
+    ghost Value = { List interval.Interval };
+
+    ghost use Rattle.nf_index.specs.inner.Orders.{IsIndex};
+
+    ghost view = { λ s. s.begins };
+
+    ghost invariant = { λ s. IsIndex s.begins s.ends.keys s.falls };
+}
+
+impl Store {
+    /// The store without intervals. Takes no memory.
+    pub fn new(alloc: Global) -> Store
+        ensures { result ≡ [] }
+    {
+        Store {
+            alloc,
+            begins: IntervalSet::new(alloc),
+            ends: BTreeSet::new(alloc),
+            falls: 0,
+        }
+    }
+
+    /// Adds an interval, and answers whether it wasn't there. Where memory is wanted, or ends would fall
+    /// more often than a usize counts, the store stays as it was.
+    pub fn insert(&mut self, interval: Interval) -> Result<bool, NoMemory>
+        ensures added { IfOk result (λ added. added ≡ not (has self.old interval)) }
+        ensures ok { OnOk result (self.new ≡ inserted interval self.old) }
+        ensures err { OnErr result (self.new ≡ self.old) }
+    {
+        if self.begins.has(&interval) {
+            return Ok(false);
+        }
+        let turns = turns_at(&self.begins, &interval);
+        let Some(falls) = counted(self.falls, turns.without, turns.with) else {
+            return Err(NoMemory);
+        };
+        let times = own_times(&interval);
+        let entered = self.ends.insert(times)?;
+        match self.begins.insert(interval) {
+            Ok(added) => {
+                self.falls = falls;
+                Ok(added)
+            }
+            Err(error) => {
+                leave(&mut self.ends, &times, entered);
+                Err(error)
+            }
+        }
+    }
+
+    /// Takes an interval away, and answers whether it was there. Takes no memory.
+    pub fn remove(&mut self, interval: &Interval) -> bool
+        ensures found { result ≡ has self.old interval.now }
+        ensures rest { self.new ≡ removed interval.now self.old }
+    {
+        if !self.begins.remove(interval) {
+            return false;
+        }
+        self.falls = taken(
+            self.alloc,
+            &self.begins,
+            &mut self.ends,
+            self.falls,
+            interval,
+        );
+        true
+    }
+
+    /// Whether an interval is in the store. Takes no memory.
+    pub fn has(&self, interval: &Interval) -> bool
+        ensures { result ≡ has self.now interval.now }
+    {
+        self.begins.has(interval)
+    }
+
+    /// The intervals, as borrowed, ascending. Takes no memory.
+    pub fn walk(&self) -> Held<'_>
+        ensures all { result ≡ self.now }
+        ensures sorted { IsSet self.now }
+    {
+        self.begins.walk()
+    }
+
+    /// The intervals that stand in a relation, as its first or its second member, to given times as
+    /// the other member, as borrowed, in no order that is promised. Takes no memory.
+    ///
+    /// What it looks at: for `before`, `meet`, `coincide`, `start`, `finish`, `after` and `follow`
+    /// what it gives and nothing else. For `during`, `contain`, `overlap`, `slice` and `Inside` the
+    /// same, if in the order by begin no interval ends before the one in front of it. Else for the
+    /// intervals within the given times those that begin within them, and for those around them or
+    /// overlapping them those that end late enough.
+    pub fn matching(&self, rel: Rel, which: Which, start: i64, stop: i64) -> Matching<'_>
+        ensures exactly { IsPermutation (filter (matches rel which start stop) self.now) result }
+        ensures sorted { IsSet self.now }
+    {
+        let times = Times { stop, start };
+        let window = window_of(rel, which);
+        Matching {
+            rest: walk_of(
+                self.alloc,
+                &self.begins,
+                &self.ends,
+                self.falls,
+                window,
+                &times,
+            ),
+            window,
+            times,
+            visits: 0,
+        }
+    }
+
+    /// The same for an interval's own times.
+    pub fn matching_with(&self, rel: Rel, which: Which, interval: &Interval) -> Matching<'_>
+        ensures exactly { IsPermutation
+            (filter (matches rel which interval.now.start interval.now.stop) self.now) result }
+    {
+        let times = own_times(interval);
+        let window = window_of(rel, which);
+        Matching {
+            rest: walk_of(
+                self.alloc,
+                &self.begins,
+                &self.ends,
+                self.falls,
+                window,
+                &times,
+            ),
+            window,
+            times,
+            visits: 0,
+        }
+    }
+}
+
+// Takes times out of the order by end if they are to go. Takes no memory.
+fn leave(ends: &mut BTreeSet<Times>, times: &Times, goes: bool)
+    ensures { (t : declared.Times) → has_end ends.new.keys t
+        ≡ (has_end ends.old.keys t && not (goes && is_same_end times.now t)) }
+{
+    if goes {
+        ends.remove(times);
+    }
+}
+
+// Brings the order by end and the count of falls, which it answers, to what the order by begin is
+// once an interval was taken out of it. Takes no memory.
+fn taken(
+    alloc: Global,
+    begins: &IntervalSet,
+    ends: &mut BTreeSet<Times>,
+    falls: usize,
+    interval: &Interval,
+) -> usize
+    requires index { IsIndex (inserted interval.now begins.now) ends.old.keys falls }
+    requires absent { has begins.now interval.now ≡ false }
+    ensures { IsIndex begins.now ends.new.keys result }
+{
+    let times = own_times(interval);
+    let others = with_times(alloc, begins, &times).next().is_some();
+    let turns = turns_at(begins, interval);
+    leave(ends, &times, !others);
+    counted_less(falls, turns.with, turns.without)
+}
