@@ -1,0 +1,3 @@
+-- How the code works, no part of the meaning.
+pub mod Made
+pub mod Exchanges
