@@ -1,0 +1,11 @@
+pub mod SumLemmas
+pub mod RuleLemmas
+pub mod TurnLemmas
+pub mod StepLemmas
+pub mod PairLemmas
+pub mod ArrivalLemmas
+pub mod PlaceLemmas
+pub mod BalanceLemmas
+pub mod CostLemmas
+pub mod FollowLemmas
+pub mod NetLemmas
