@@ -1,0 +1,2 @@
+pub mod Minimals
+pub mod inner
