@@ -1,0 +1,4 @@
+pub mod PrefixLemmas
+pub mod LinkLemmas
+pub mod RuleLinkLemmas
+pub mod Public
