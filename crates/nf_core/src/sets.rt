@@ -1,6 +1,7 @@
 //! Sorted sets of intervals.
 
-ghost use Rattle.std.specs.Prelude.{◌≡◌, [], not, filter, IfOk, OnOk, OnErr};
+ghost use Rattle.std.specs.Prelude.{◌≡◌, [], ◌∷◌, length, not, filter, IfSome, IfNone, IfOk, OnOk, OnErr};
+ghost use Rattle.std.specs.Option.{is_some};
 ghost use Rattle.std.specs.Iterator.{YieldsFirstRef, YieldsLastRef, item_count};
 ghost use Rattle.std.specs.BTreeMap.Range.{IsLeBy, IsLtBy, range_contains};
 ghost use Rattle.nf_core.specs.Intervals.{interval_cmp};
@@ -58,6 +59,32 @@ impl IntervalSet {
         ensures rest { self.new ≡ removed interval.now self.old }
     {
         self.set.remove(interval)
+    }
+
+    /// Takes an interval away and answers it, None where it wasn't there. Takes no memory.
+    pub fn take(&mut self, interval: &Interval) -> Option<Interval>
+        ensures found { is_some result ≡ has self.old interval.now }
+        ensures itself { IfSome result (λ i. i ≡ interval.now) }
+        ensures rest { self.new ≡ removed interval.now self.old }
+    {
+        self.set.take(interval)
+    }
+
+    /// Takes the first interval away and answers it, None where there is none. Takes no memory.
+    pub fn pop_first(&mut self) -> Option<Interval>
+        ensures first { IfSome result (λ i. self.old ≡ i ∷ self.new) }
+        ensures none { IfNone result (self.old ≡ []) }
+        ensures empty { IfNone result (self.new ≡ []) }
+        ensures sorted { IsSet self.old }
+    {
+        self.set.pop_first()
+    }
+
+    /// How many intervals there are. Takes no memory.
+    pub fn len(&self) -> usize
+        ensures { result ≡ length self.now }
+    {
+        self.set.len()
     }
 
     /// Whether an interval is in the set. Takes no memory.

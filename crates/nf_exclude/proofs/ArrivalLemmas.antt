@@ -6,6 +6,7 @@ use Rattle.nf_core.specs.Intervals.{Interval, same}
 use Rattle.nf_core.specs.Sets.{IsSet, has}
 use Rattle.nf_core.specs.declared.terms.PlanRule.{PlanRule}
 use Rattle.nf_core.proofs.Public.SameIntervalLemmas.{same_is, same_swapped}
+use Rattle.nf_core.proofs.Public.SetLemmas.{none_again}
 use Rattle.nf_index.specs.declared.relations.Which.TheVariants.{Second}
 use Rattle.nf_model.specs.Results.{is_met}
 use Rattle.nf_pairs.specs.Partners.{ArePartners, is_related}
@@ -13,7 +14,6 @@ use Rattle.nf_pairs.proofs.Public.PartnerLemmas.{partners_sum}
 use Rattle.nf_exclude.specs.Exclusions.{IsExclusive, blocks_in, blockers_among}
 use Rattle.nf_exclude.specs.inner.Turns.{set_left}
 use Rattle.nf_exclude.proofs.RuleLemmas.{blocker_counts}
-use Rattle.nf_exclude.proofs.SumLemmas.{none_again}
 
 -- an item, and what is left behind it
 pub item_left : (xs : List Interval) (i : ℕ) (x : Interval) → i < length xs → x ≡ get_or xs i x → drop i xs ≡ x ∷ drop (i + 1) xs

@@ -7,7 +7,7 @@ use Rattle.nf_core.specs.declared.terms.Link.{Link}
 use Rattle.nf_core.specs.declared.terms.Link.TheVariants.{One, Pair, Unless}
 use Rattle.nf_core.specs.declared.terms.PlanRule.{PlanRule}
 use Rattle.nf_model.specs.Results.{results_by}
-use Rattle.nf_pairs.specs.Deltas.{delta_of}
+use Rattle.nf_model.specs.Changes.{delta_of}
 use Rattle.nf_tally.specs.Numbers.{often, is_on, IsNet}
 use Rattle.nf_tally.proofs.Public.OftenLemmas.{net_is_delta}
 

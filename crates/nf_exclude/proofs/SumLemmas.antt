@@ -4,9 +4,9 @@ use Rattle.std.specs.List.{sum_by, count_by, list_any}
 use Rattle.std.proofs.lemmas.List.Sums.{sum_by-cons}
 use Rattle.std.proofs.lemmas.List.Elements.{All-head, All-tail}
 use Rattle.nf_core.specs.Intervals.{Interval, same}
-use Rattle.nf_core.specs.Sets.{IsSet, has, removed}
+use Rattle.nf_core.specs.Sets.{IsSet, has}
 use Rattle.nf_core.proofs.Public.SameIntervalLemmas.{same_is, same_self, same_swapped}
-use Rattle.nf_core.proofs.Public.SetLemmas.{has_removed}
+use Rattle.nf_core.proofs.Public.SetLemmas.{none_again}
 use Rattle.nf_pairs.proofs.Public.SumLemmas.{sum_by_agree}
 use Rattle.nf_tally.specs.Numbers.{one_at, is_on}
 
@@ -32,17 +32,7 @@ All-has P (x ∷ xs) q all there = by (same q x) refl there (All-has P xs q (All
     by true e h rest = subst P (sym (same_is q x e)) (All-head P x xs all)
     by false e h rest = rest h
 
--- the first of a sorted list isn't among the rest
-pub none_again : (x : Interval) (xs : List Interval) → IsSet (x ∷ xs) → has xs x ≡ false
-none_again x xs s =
-    ap (λ b. has (cond b xs (x ∷ removed x xs)) x) (sym (same_self x)) ∙ has_removed x (x ∷ xs) x s
-    ∙ ap (λ b. has (x ∷ xs) x && not b) (same_self x) ∙ and_false (has (x ∷ xs) x)
-  where
-    and_false : (b : Bool) → (b && false) ≡ false
-    and_false true = refl
-    and_false false = refl
-
--- and the rest is sorted
+-- the rest of a sorted list is sorted
 pub sorted_rest : (x : Interval) (xs : List Interval) → IsSet (x ∷ xs) → IsSet xs
 unfolding Rattle.std.specs.List.Sorted.IsStrictlySortedBy
 sorted_rest x xs s = s.1

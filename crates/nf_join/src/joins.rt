@@ -5,7 +5,8 @@ ghost use Rattle.nf_core.specs.Sets.{once};
 ghost use Rattle.nf_model.specs.Members.{IsPlanned, HaveAllPlaces};
 ghost use Rattle.nf_model.specs.Results.{results};
 ghost use Rattle.nf_model.specs.Work.{rule_work};
-ghost use Rattle.nf_pairs.specs.Deltas.{IsDelta, before, delta_of};
+ghost use Rattle.nf_model.specs.Changes.{delta_of};
+ghost use Rattle.nf_pairs.specs.Deltas.{IsDelta, before};
 ghost use Rattle.nf_pairs.specs.Partners.{HasTwoAtoms};
 ghost use Rattle.nf_join.specs.Joins.{IsInclusive, StandsFor};
 

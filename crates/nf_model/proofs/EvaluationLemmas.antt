@@ -7,9 +7,9 @@ use Rattle.nf_core.specs.Plan.{Plan, IsPlan, level_of}
 use Rattle.nf_model.specs.Members.{AreOfKeys}
 use Rattle.nf_model.specs.Pools.{Inputs, of_name, held_over, holds_all, pool}
 use Rattle.nf_model.specs.inner.Known.{AreKnownUpTo}
-use Rattle.nf_model.proofs.PoolLemmas.{reads_below}
+use Rattle.nf_model.proofs.Public.PoolLemmas.{reads_below}
 use Rattle.nf_model.proofs.Public.LevelLemmas.{step-is_by_levels}
-use Rattle.nf_model.proofs.CellLemmas.{candidates_cells, set_cells}
+use Rattle.nf_model.proofs.Public.CellLemmas.{candidates_cells, set_cells}
 
 module _ (plan : Plan) (full : Bool) (inputs : Inputs) where
   -- a name of the level is settled, or it is of another level and its list stays

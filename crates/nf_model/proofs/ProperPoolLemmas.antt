@@ -29,7 +29,7 @@ use Rattle.nf_model.specs.Pools.{Inputs, of_name, is_minimal, minimal, judged, h
 use Rattle.nf_model.specs.Levels.{Pools, through_levels}
 use Rattle.nf_model.specs.Changes.{no_inputs, pool_of}
 use Rattle.nf_model.specs.ProperRows.{IsProperCell, IsProper, AreProper}
-use Rattle.nf_model.proofs.EmptyInputLemmas.{nothing_pooled}
+use Rattle.nf_model.proofs.Public.EmptyInputLemmas.{nothing_pooled}
 use Rattle.nf_model.proofs.Public.LevelLemmas.{kept_by_levels}
 use Rattle.nf_model.proofs.ProperValueLemmas.{IsProperMember, value_proper}
 

@@ -5,3 +5,7 @@ pub mod ChangeLemmas
 pub mod InputLemmas
 pub mod PlaceLemmas
 pub mod WorkLemmas
+pub mod PoolLemmas
+pub mod CellLemmas
+pub mod EmptyInputLemmas
+pub mod ContentLemmas

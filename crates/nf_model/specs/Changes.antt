@@ -4,6 +4,7 @@ use Rattle.std.specs.List.{range_with_len}
 use Rattle.nf_core.specs.Intervals.{Interval}
 use Rattle.nf_core.specs.Sets.{IsSet, has, inserted}
 use Rattle.nf_core.specs.Plan.{Plan, IsPlan, is_head, is_wide}
+use Rattle.nf_core.specs.declared.intervals.Delta.{Delta}
 use Rattle.nf_core.specs.declared.intervals.Named.{Named}
 use Rattle.nf_core.specs.declared.intervals.Change.{Change}
 use Rattle.nf_model.specs.Levels.{Pools}
@@ -44,6 +45,10 @@ heads plan = filter (is_head plan) (range_with_len 0 (length plan.names))
 -- the members of a list that another one lacks
 abbrev pub lacking : List Interval → List Interval → List Interval
 lacking members others = filter (λ i. not (has others i)) members
+
+-- the delta from one list to another: what the first one has and the other lacks went, and the other way round came
+abbrev pub delta_of : (old now : List Interval) → Delta
+delta_of old now = record { gone = lacking old now; come = lacking now old }
 
 -- intervals with their name's number
 abbrev pub named : ℕ → List Interval → List Named

@@ -3,7 +3,6 @@ use Rattle.std.specs.Prelude.{◌≡◌, true, false, not, List, filter, fold}
 use Rattle.nf_core.specs.Intervals.{Interval}
 use Rattle.nf_core.specs.Sets.{IsSet, has, inserted}
 use Rattle.nf_core.specs.declared.intervals.Delta.{Delta}
-use Rattle.nf_model.specs.Changes.{lacking}
 
 -- a delta that led to a list: its lists ascend and have each interval once; nothing that went is in the list, and all that came is
 pub record IsDelta (now : List Interval) (delta : Delta) : Type 0 where
@@ -15,7 +14,3 @@ pub record IsDelta (now : List Interval) (delta : Delta) : Type 0 where
 -- the list before a delta: without what came, and with what went
 abbrev pub before : Delta → List Interval → List Interval
 before delta now = fold (λ set i. inserted i set) (filter (λ i. not (has delta.come i)) now) delta.gone
-
--- the delta from one list to another: what the first one has and the other lacks went, and the other way round came
-abbrev pub delta_of : (old now : List Interval) → Delta
-delta_of old now = record { gone = lacking old now; come = lacking now old }

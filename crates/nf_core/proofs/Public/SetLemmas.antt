@@ -58,7 +58,7 @@ has_inserted i (x ∷ xs) q = by (interval_cmp i x) refl (has_inserted i xs q)
     by Greater e rest = ap (λ b. same q x || b) rest ∙ or_swapped (same q x) (same q i) (has xs q)
 
 -- the first of a sorted list isn't among the rest
-none_again : (x : Interval) (xs : List Interval) → IsSet (x ∷ xs) → has xs x ≡ false
+pub none_again : (x : Interval) (xs : List Interval) → IsSet (x ∷ xs) → has xs x ≡ false
 unfolding IsStrictlySortedBy
 none_again x xs s = list_any_none (same x) xs (All-weaker (λ y. interval_cmp x y ≡ Less) (λ y. same x y ≡ false) (λ y h. ap is_eq h) xs (All-from_recursion _ xs s.0))
 

@@ -6,9 +6,9 @@ use Rattle.nf_core.specs.Sets.{IsSet, has, inserted}
 use Rattle.nf_core.specs.declared.intervals.Delta.{Delta}
 use Rattle.nf_core.proofs.Public.AscendingLemmas.{IsStrictlySortedBy-fold}
 use Rattle.nf_core.proofs.Public.SetLemmas.{has_inserted, has_filter, IsSet-filter, same_set}
-use Rattle.nf_model.specs.Changes.{lacking}
+use Rattle.nf_model.specs.Changes.{lacking, delta_of}
 use Rattle.nf_model.specs.Work.{differing}
-use Rattle.nf_pairs.specs.Deltas.{IsDelta, before, delta_of}
+use Rattle.nf_pairs.specs.Deltas.{IsDelta, before}
 use Rattle.nf_pairs.specs.inner.Walks.{kept}
 
 -- ---- the list before a delta

@@ -1,4 +1,4 @@
-use Rattle.nf_model.proofs.ContentLemmas.{content_begins, content_grows}
+use Rattle.nf_model.proofs.Public.ContentLemmas.{content_begins, content_grows}
 use Rattle.nf_model.proofs.laws.contents_stay.Goals as goal
 
 pub returns : goal.returns

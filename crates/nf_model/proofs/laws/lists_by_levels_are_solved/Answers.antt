@@ -1,4 +1,4 @@
-use Rattle.nf_model.proofs.PoolLemmas.{reads_below}
+use Rattle.nf_model.proofs.Public.PoolLemmas.{reads_below}
 use Rattle.nf_model.proofs.Public.LevelLemmas.{by_levels_solved}
 use Rattle.nf_model.proofs.laws.lists_by_levels_are_solved.Goals as goal
 

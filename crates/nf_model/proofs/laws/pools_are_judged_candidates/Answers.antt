@@ -1,4 +1,4 @@
-use Rattle.nf_model.proofs.PoolLemmas.{pool_is_judged}
+use Rattle.nf_model.proofs.Public.PoolLemmas.{pool_is_judged}
 use Rattle.nf_model.proofs.laws.pools_are_judged_candidates.Goals as goal
 
 pub returns : goal.returns

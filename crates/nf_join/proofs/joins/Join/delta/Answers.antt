@@ -2,7 +2,8 @@ use Rattle.std.proofs.Common.{◌≡◌, ◌+◌, List, ap, sym, subst, ◌∙�
 use Rattle.nf_core.specs.Intervals.{Interval}
 use Rattle.nf_core.specs.Sets.{once}
 use Rattle.nf_model.specs.Results.{results}
-use Rattle.nf_pairs.specs.Deltas.{before, delta_of}
+use Rattle.nf_model.specs.Changes.{delta_of}
+use Rattle.nf_pairs.specs.Deltas.{before}
 use Rattle.nf_tally.specs.Numbers.{number, often}
 use Rattle.nf_join.specs.Joins.{Join, StandsFor}
 use Rattle.nf_join.proofs.JoinLemmas.{enough, delta_is}

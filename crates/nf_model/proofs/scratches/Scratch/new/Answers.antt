@@ -1,7 +1,7 @@
 use Rattle.std.proofs.Common.{ℕ, List, [], length, replicate, sym, ap, subst, ◌∙◌}
 use Rattle.nf_core.specs.Intervals.{Interval}
 use Rattle.nf_core.specs.Plan.{Plan, IsPlan}
-use Rattle.nf_model.proofs.ContentLemmas.{nothing_evaluated}
+use Rattle.nf_model.proofs.Public.ContentLemmas.{nothing_evaluated}
 use Rattle.nf_model.proofs.scratches.Scratch.new.Goals as goal
 
 pub invariant_of-result : goal.invariant_of-result

@@ -6,7 +6,7 @@ use Rattle.nf_model.specs.Changes.{Content, with_input, change}
 use Rattle.nf_model.specs.Members.{AreOfKeys}
 use Rattle.nf_model.specs.inner.Known.{ArePools}
 use Rattle.nf_model.specs.Pools.{Inputs, of_name}
-use Rattle.nf_model.proofs.ContentLemmas.{stepped}
+use Rattle.nf_model.proofs.Public.ContentLemmas.{stepped}
 use Rattle.nf_model.proofs.HeadLemmas.{step_changes}
 use Rattle.nf_model.proofs.scratches.ScratchInferer.step.Goals as goal
 

@@ -12,8 +12,8 @@ use Rattle.nf_model.specs.Members.{IsInTime, IsOfKeys}
 use Rattle.nf_model.specs.Pools.{Inputs, of_name, pool}
 use Rattle.nf_model.specs.Changes.{Content, IsContent, no_inputs, with_input}
 use Rattle.nf_model.specs.inner.Known.{IsEvaluated}
-use Rattle.nf_model.proofs.CellLemmas.{set_cells}
-use Rattle.nf_model.proofs.EmptyInputLemmas.{nothing_held, nothing_of_keys}
+use Rattle.nf_model.proofs.Public.CellLemmas.{set_cells}
+use Rattle.nf_model.proofs.Public.EmptyInputLemmas.{nothing_held, nothing_of_keys}
 use Rattle.nf_model.proofs.Public.InputLemmas.{nothing_entered, set_each}
 
 none_set : IsSet []
