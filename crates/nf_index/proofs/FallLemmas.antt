@@ -1,5 +1,5 @@
 -- How often ends fall in a list, by its parts.
-use Rattle.std.proofs.Common.{◌≡◌, ◌+◌, ◌≤◌, Bool, true, false, cond, not, ◌&&◌, ◌||◌, List, [], ◌∷◌, ◌++◌, filter, int_lt, Option, Some, None, refl, sym, ap, ◌∙◌, true≢false, arith, Bor}
+use Rattle.std.proofs.Common.{◌≡◌, ◌+◌, ◌≤◌, Bool, true, false, cond, not, ◌&&◌, ◌||◌, List, [], ◌∷◌, ◌++◌, filter, length, Option, Some, None, refl, sym, ap, ◌∙◌, true≢false, arith, Bor}
 use Rattle.std.specs.Option.{option_copied}
 use Rattle.std.specs.Iterator.{YieldsFirstRef, YieldsLastRef}
 use Rattle.std.specs.declared.cmp.Ordering.{Ordering}
@@ -7,7 +7,6 @@ use Rattle.std.specs.declared.cmp.Ordering.TheVariants.{Less, Equal, Greater}
 use Rattle.std.specs.Ordering.{is_eq, is_lt, is_le, match_ordering}
 use Rattle.std.specs.List.{AllByRecursion}
 use Rattle.std.specs.List.Sorted.{IsStrictlySortedBy}
-use Rattle.std.proofs.lemmas.Int.{ints}
 use Rattle.nf_core.specs.Intervals.{Interval, interval_cmp, interval_cmp_total}
 use Rattle.nf_core.specs.Sets.{IsSet, has, inserted}
 use Rattle.nf_index.specs.inner.Orders.{fall, falls, falls_from}
@@ -130,14 +129,22 @@ falls_without i is s absent =
     let without : falls is ≡ falls b + (fall (last_of b) (first_of a) + falls a) = ap falls parts.whole ∙ falls_append b a in
     omega arith
 
--- where ends fall from one to another, they fall on the way over any third one
-pub fall_over : (a c : Option Interval) (i : Interval) → fall a c ≤ fall a (Some i) + fall (Some i) c
-fall_over None c i = omega arith
-fall_over (Some x) None i = omega arith
-fall_over (Some x) (Some y) i = by (int_lt y.stop x.stop) (int_lt i.stop x.stop) (int_lt y.stop i.stop) refl refl refl
+-- at most one for each interval but the first
+falls_few : (i : Interval) (is : List Interval) → falls_from i is ≤ length is
+unfolding falls falls_from
+falls_few i [] = omega arith
+falls_few i (j ∷ js) = let later = falls_few j js in let here = at_most (Some i) (Some j) in omega arith
   where
-    by : (a b c : Bool) → int_lt y.stop x.stop ≡ a → int_lt i.stop x.stop ≡ b → int_lt y.stop i.stop ≡ c → cond a 1 0 ≤ cond b 1 0 + cond c 1 0
-    by false b c e f g = omega arith
-    by true true c e f g = omega arith
-    by true false true e f g = omega arith
-    by true false false e f g = absurd (grind (arith, ints, e, f, g))
+    bit : (b : Bool) → cond b 1 0 ≤ 1
+    bit true = omega arith
+    bit false = omega arith
+
+    at_most : (a c : Option Interval) → fall a c ≤ 1
+    at_most None c = omega arith
+    at_most (Some x) None = omega arith
+    at_most (Some x) (Some y) = bit _
+
+pub falls_most : (is : List Interval) → falls is ≤ length is
+unfolding falls falls_from
+falls_most [] = omega arith
+falls_most (i ∷ is) = let later = falls_few i is in omega arith

@@ -1,6 +1,6 @@
 //! How often ends fall from one interval to the next in the order by begin.
 
-ghost use Rattle.std.specs.Prelude.{◌≡◌, ◌+◌, ◌≤◌, false, Some, IfSome};
+ghost use Rattle.std.specs.Prelude.{◌≡◌, ◌+◌, ◌≤◌, false, Some};
 ghost use Rattle.std.specs.Option.{option_copied};
 ghost use Rattle.nf_core.specs.Sets.{IsSet, has, inserted};
 ghost use Rattle.nf_index.specs.inner.Orders.{fall, falls};
@@ -32,7 +32,7 @@ pub fn turns_at(begins: &IntervalSet, interval: &Interval) -> Turns
     ensures changes { has begins.now interval.now ≡ false →
         falls (inserted interval.now begins.now) + result.without ≡ falls begins.now + result.with }
     ensures within { has begins.now interval.now ≡ false → result.without ≤ falls begins.now }
-    ensures fewer { result.without ≤ result.with }
+    ensures most { result.with ≤ 2 }
     ensures sorted { IsSet begins.now }
 {
     let mut part = begins.range(..interval);
@@ -45,20 +45,14 @@ pub fn turns_at(begins: &IntervalSet, interval: &Interval) -> Turns
     }
 }
 
-/// The count of falling ends once an interval was put in, from the count before that, where so many falls
-/// went and so many came. None where a usize doesn't hold it. Takes no memory.
-pub fn counted(count: usize, gone: usize, come: usize) -> Option<usize>
-    requires { gone ≤ count }
-    ensures { IfSome result (λ n. n + gone ≡ count + come) }
-{
-    (count - gone).checked_add(come)
-}
-
-/// The same once an interval was taken out, by which no more falls come than go. Takes no memory.
-pub fn counted_less(count: usize, gone: usize, come: usize) -> usize
+/// The count of falling ends of a set that one interval was put into or taken out of, from the count
+/// before that, where so many falls went and so many came. Takes no memory.
+pub fn counted(begins: &IntervalSet, count: usize, gone: usize, come: usize) -> usize
+    requires changes { falls begins.now + gone ≡ count + come }
     requires within { gone ≤ count }
-    requires fewer { come ≤ gone }
-    ensures { result + gone ≡ count + come }
+    ensures { result ≡ falls begins.now }
 {
+    // a set has fewer intervals than a `usize` counts, so the falls fit
+    let _ = begins.len();
     count - gone + come
 }

@@ -1,13 +1,15 @@
 //! The store.
 
-ghost use Rattle.std.specs.Prelude.{◌≡◌, [], not, ◌&&◌, false, filter, int_lt, IfOk, OnOk, OnErr};
+ghost use Rattle.std.specs.Prelude.{◌≡◌, [], not, ◌&&◌, false, filter, int_lt, IfSome, IfOk, OnOk, OnErr};
+ghost use Rattle.std.specs.Option.{is_some};
 ghost use Rattle.std.specs.List.Sorted.{IsPermutation};
 ghost use Rattle.nf_core.specs.Sets.{IsSet, has, inserted, removed};
 ghost use Rattle.nf_index.specs.Matching.{matches};
 ghost use Rattle.nf_index.specs.declared.times.Times as declared;
 ghost use Rattle.nf_index.specs.inner.Orders.{IsIndex, has_end, is_same_end};
 
-use crate::falls::{counted, counted_less, turns_at};
+use crate::falls::{counted, turns_at};
+use crate::forgetting::pop_before;
 use crate::matching::Matching;
 use crate::plans::walk_of;
 use crate::relations::{Rel, Which};
@@ -53,8 +55,8 @@ impl Store {
         }
     }
 
-    /// Adds an interval, and answers whether it wasn't there. Where memory is wanted, or ends would fall
-    /// more often than a usize counts, the store stays as it was.
+    /// Adds an interval, and answers whether it wasn't there. Where memory is wanted the store stays
+    /// as it was.
     pub fn insert(&mut self, interval: Interval) -> Result<bool, NoMemory>
         ensures added { IfOk result (λ added. added ≡ not (has self.old interval)) }
         ensures ok { OnOk result (self.new ≡ inserted interval self.old) }
@@ -64,14 +66,11 @@ impl Store {
             return Ok(false);
         }
         let turns = turns_at(&self.begins, &interval);
-        let Some(falls) = counted(self.falls, turns.without, turns.with) else {
-            return Err(NoMemory);
-        };
         let times = own_times(&interval);
         let entered = self.ends.insert(times)?;
         match self.begins.insert(interval) {
             Ok(added) => {
-                self.falls = falls;
+                self.falls = counted(&self.begins, self.falls, turns.without, turns.with);
                 Ok(added)
             }
             Err(error) => {
@@ -86,9 +85,18 @@ impl Store {
         ensures found { result ≡ has self.old interval.now }
         ensures rest { self.new ≡ removed interval.now self.old }
     {
-        if !self.begins.remove(interval) {
-            return false;
-        }
+        self.take(interval).is_some()
+    }
+
+    /// Takes an interval away and answers it, None where it wasn't there. Takes no memory.
+    pub fn take(&mut self, interval: &Interval) -> Option<Interval>
+        ensures found { is_some result ≡ has self.old interval.now }
+        ensures itself { IfSome result (λ i. i ≡ interval.now) }
+        ensures rest { self.new ≡ removed interval.now self.old }
+    {
+        let Some(one) = self.begins.take(interval) else {
+            return None;
+        };
         self.falls = taken(
             self.alloc,
             &self.begins,
@@ -96,7 +104,22 @@ impl Store {
             self.falls,
             interval,
         );
-        true
+        Some(one)
+    }
+
+    /// Takes away the intervals that begin before a time. Takes no memory.
+    pub fn forget(&mut self, before: i64)
+        ensures { self.new ≡ filter (λ i. not (int_lt i.start before)) self.old }
+    {
+        while let Some(interval) = pop_before(&mut self.begins, &before) {
+            self.falls = taken(
+                self.alloc,
+                &self.begins,
+                &mut self.ends,
+                self.falls,
+                &interval,
+            );
+        }
     }
 
     /// Whether an interval is in the store. Takes no memory.
@@ -193,5 +216,5 @@ fn taken(
     let others = with_times(alloc, begins, &times).next().is_some();
     let turns = turns_at(begins, interval);
     leave(ends, &times, !others);
-    counted_less(falls, turns.with, turns.without)
+    counted(begins, falls, turns.with, turns.without)
 }

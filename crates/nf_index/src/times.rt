@@ -14,7 +14,7 @@ pub struct Times {
     pub start: i64,
 }
 
-// The times of an interval. Takes no memory.
+/// The times of an interval. Takes no memory.
 pub fn own_times(interval: &Interval) -> Times
     ensures is { result ≡ times_of interval.now }
     ensures place { result.start ≤ℤ result.stop }
@@ -37,7 +37,7 @@ fn key(alloc: Global, times: &Times) -> Interval
     }
 }
 
-// A part of a set that has no interval. Takes no memory.
+/// A part of a set that has no interval. Takes no memory.
 pub fn nothing(alloc: Global, begins: &IntervalSet) -> Part<'_>
     ensures { result ≡ [] }
 {
@@ -45,8 +45,8 @@ pub fn nothing(alloc: Global, begins: &IntervalSet) -> Part<'_>
     begins.range(&first..&first)
 }
 
-// The intervals of a set from one place to before another one, where None is past the last one.
-// Takes no memory.
+/// The intervals of a set from one place to before another one, where None is past the last one.
+/// Takes no memory.
 pub fn between<'a>(
     alloc: Global,
     begins: &'a IntervalSet,
@@ -71,7 +71,7 @@ pub fn between<'a>(
     begins.range(low..high)
 }
 
-// The place of the first interval that begins at a time or later. Takes no memory.
+/// The place of the first interval that begins at a time or later. Takes no memory.
 pub fn begin_from(time: &i64) -> Option<Times>
     ensures place { IsPlace result }
     ensures is { (i : spec.Interval) → IsStored i → reached result i ≡ int_le time.now i.start }
@@ -82,7 +82,7 @@ pub fn begin_from(time: &i64) -> Option<Times>
     })
 }
 
-// The place of the first interval that begins after a time. Takes no memory.
+/// The place of the first interval that begins after a time. Takes no memory.
 pub fn begin_after(time: &i64) -> Option<Times>
     ensures place { IsPlace result }
     ensures is { (i : spec.Interval) → IsStored i → reached result i ≡ int_lt time.now i.start }
@@ -94,7 +94,7 @@ pub fn begin_after(time: &i64) -> Option<Times>
     }
 }
 
-// The place after the intervals with given times. Takes no memory.
+/// The place after the intervals with given times. Takes no memory.
 pub fn after_times(times: &Times) -> Option<Times>
     requires { times.now.start ≤ℤ times.now.stop }
     ensures place { IsPlace result }
@@ -111,7 +111,7 @@ pub fn after_times(times: &Times) -> Option<Times>
     }
 }
 
-// The intervals of a set with given times. Takes no memory.
+/// The intervals of a set with given times. Takes no memory.
 pub fn with_times<'a>(alloc: Global, begins: &'a IntervalSet, times: &Times) -> Part<'a>
     requires place { times.now.start ≤ℤ times.now.stop }
     requires stored { AreStored begins.now }

@@ -2,15 +2,11 @@
 use Rattle.std.proofs.Common.{◌≡◌, ℕ, ◌+◌, ◌≤◌, Bool, true, false, not, ◌&&◌, ◌||◌, List, [], ◌∷◌, subst, refl, sym, ap, ◌∙◌, arith}
 use Rattle.std.specs.List.{list_any}
 use Rattle.std.specs.List.Sorted.{IsStrictlySortedBy}
-use Rattle.std.specs.declared.cmp.Ordering.TheVariants.{Less}
-use Rattle.std.specs.Ordering.{is_eq}
-use Rattle.std.proofs.lemmas.List.Elements.{All-from_recursion, All-weaker}
-use Rattle.std.proofs.lemmas.List.Folds.{list_any_none}
-use Rattle.nf_core.specs.Intervals.{Interval, interval_cmp, same, is_strictly_inside}
+use Rattle.nf_core.specs.Intervals.{Interval, same, is_strictly_inside}
 use Rattle.nf_core.specs.Sets.{IsSet, has, once}
 use Rattle.nf_core.specs.declared.intervals.Delta.{Delta}
 use Rattle.nf_core.proofs.Public.SameIntervalLemmas.{same_is}
-use Rattle.nf_core.proofs.Public.SetLemmas.{has_filter, has_once, IsSet-once, same_set, any_passes, any_member}
+use Rattle.nf_core.proofs.Public.SetLemmas.{none_again, has_filter, has_once, IsSet-once, same_set, any_passes, any_member}
 use Rattle.nf_tally.specs.Numbers.{Numbers, number, often, is_on, IsNet}
 use Rattle.nf_tally.proofs.Public.OftenLemmas.{often-cons}
 use Rattle.nf_model.specs.Pools.{judged, minimal, is_minimal}
@@ -19,11 +15,6 @@ use Rattle.nf_minimal.specs.inner.Barred.{bars, is_barred}
 use Rattle.nf_minimal.specs.inner.Judged.{IsJudged, IsKept, present, once_if}
 use Rattle.nf_minimal.proofs.BarLemmas.{clash, bars_through}
 use Rattle.nf_minimal.proofs.Public.CandidateLemmas.{has_candidates}
-
--- the first of a sorted list isn't among the rest
-none_again : (x : Interval) (xs : List Interval) → IsSet (x ∷ xs) → has xs x ≡ false
-unfolding IsStrictlySortedBy
-none_again x xs s = list_any_none (same x) xs (All-weaker (λ y. interval_cmp x y ≡ Less) (λ y. same x y ≡ false) (λ y h. ap is_eq h) xs (All-from_recursion _ xs s.0))
 
 -- where all are held none is barred
 pub none_barred : (is : List Interval) (q : Interval) → is_barred true is q ≡ false

@@ -2,9 +2,7 @@
 use Rattle.std.specs.Prelude.{ℕ, Bool, List, map, filter}
 use Rattle.nf_core.specs.Intervals.{Interval}
 use Rattle.nf_core.specs.Sets.{once}
-use Rattle.nf_core.specs.declared.intervals.Delta.{Delta}
 use Rattle.nf_tally.specs.Numbers.{Numbers, number, is_on}
-use Rattle.nf_model.specs.Changes.{lacking}
 use Rattle.nf_model.specs.Pools.{judged}
 
 -- whether all candidates are held, and how many sources each interval has
@@ -19,7 +17,3 @@ candidates_of m = filter (λ i. is_on (number m.sources i)) (once (map (λ (e : 
 -- the held ones: the minimal ones, or all of them where all are held
 abbrev pub held_of : Minimal → List Interval
 held_of m = judged m.full (candidates_of m)
-
--- what one list has and another one lacks, both ways
-abbrev pub delta_between : (old new : List Interval) → Delta
-delta_between old new = record { gone = lacking old new; come = lacking new old }

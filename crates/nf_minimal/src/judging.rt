@@ -7,7 +7,7 @@ ghost use Rattle.nf_minimal.specs.inner.Barred.{bars};
 ghost use Rattle.nf_minimal.specs.inner.Judged.{IsJudged, present, once_if};
 
 use crate::lookups::{first_barred, is_barred};
-use nf_core::{Interval, IntervalList, NoMemory, TryCopy};
+use nf_core::{Interval, IntervalList, NoMemory};
 use nf_index::Store;
 use nf_tally::Net;
 use std::alloc::Global;
@@ -91,20 +91,22 @@ impl Judging {
         ensures { OnOk result (GivesWay interval.now self.old self.new) }
     {
         while let Some(outer) = first_barred(self.full, alloc, &self.held, interval)? {
-            self.suppress(alloc, outer)?;
+            self.suppress(outer)?;
         }
         Ok(())
     }
 
-    /// Suppresses a held interval.
-    fn suppress(&mut self, alloc: Global, outer: Interval) -> Result<(), NoMemory>
+    /// Suppresses a held interval: it moves from one store to the other.
+    fn suppress(&mut self, outer: Interval) -> Result<(), NoMemory>
         requires set { IsSet self.old.held }
         requires held { has self.old.held outer ≡ true }
         ensures { OnOk result (Suppresses outer self.old self.new) }
     {
-        self.held.remove(&outer);
-        self.net.leave(outer.copy(alloc)?)?;
-        self.suppressed.insert(outer)?;
+        let Some(stored) = self.held.take(&outer) else {
+            return Ok(());
+        };
+        self.net.leave(outer)?;
+        self.suppressed.insert(stored)?;
         Ok(())
     }
 }

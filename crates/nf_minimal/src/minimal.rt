@@ -1,6 +1,6 @@
 //! The candidates of a name by their sources, and what is held of them.
 
-ghost use Rattle.std.specs.Prelude.{◌≡◌, ℕ, ◌+◌, ◌≤◌, ◌^◌, [], IfOk};
+ghost use Rattle.std.specs.Prelude.{◌≡◌, ℕ, ◌+◌, ◌≤◌, [], IfOk};
 ghost use Rattle.nf_tally.specs.Numbers.{number, often, is_on};
 
 use crate::judging::Judging;
@@ -34,7 +34,8 @@ impl Model for Minimal {
 }
 
 impl Minimal {
-    ghost use Rattle.nf_minimal.specs.Minimals.{held_of, delta_between};
+    ghost use Rattle.nf_model.specs.Changes.{delta_of};
+    ghost use Rattle.nf_minimal.specs.Minimals.{held_of};
 
     /// No interval has a source. Under `full` all candidates will be held, else the minimal ones.
     /// Takes no memory.
@@ -63,11 +64,10 @@ impl Minimal {
     pub fn apply(self, alloc: Global, delta: Delta) -> Result<(Minimal, Delta), NoMemory>
         requires enough { (q : _)
             → often delta.gone q ≤ number self.sources q + often delta.come q }
-        requires few { (q : _) → number self.sources q + often delta.come q ≤ 2 ^ 32 }
         ensures full { IfOk result (λ r. r.0.full ≡ self.full) }
         ensures sources { IfOk result (λ r. (q : _) → number r.0.sources q + often delta.gone q
             ≡ number self.sources q + often delta.come q) }
-        ensures delta { IfOk result (λ r. r.1 ≡ delta_between (held_of self) (held_of r.0)) }
+        ensures delta { IfOk result (λ r. r.1 ≡ delta_of (held_of self) (held_of r.0)) }
     {
         let Minimal {
             full,

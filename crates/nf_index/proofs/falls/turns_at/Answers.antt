@@ -1,7 +1,7 @@
 use Rattle.std.proofs.Common.{◌≡◌, Some, sym, ap, ◌∙◌, filter}
 use Rattle.std.specs.Option.{option_copied}
 use Rattle.nf_index.specs.inner.Orders.{fall}
-use Rattle.nf_index.proofs.FallLemmas.{before, after, last_of, first_of, last_given, first_given, falls_inserted, falls_without, fall_over}
+use Rattle.nf_index.proofs.FallLemmas.{before, after, last_of, first_of, last_given, first_given, falls_inserted, falls_without}
 use Rattle.nf_index.proofs.falls.turns_at.Goals as goal
 
 pub returns-clause-changes : goal.returns-clause-changes
@@ -24,7 +24,3 @@ returns-clause-within c absent =
     let first : first_of (filter (after i) is) ≡ option_copied c.next-after.result = ap first_of (sym (c.range-part-2.ensures.between tt)) ∙ first_given _ _ _ c.next-after.ensures.steps in
     let three : c.fall_of-3.result ≡ fall (last_of (filter (before i) is)) (first_of (filter (after i) is)) = c.fall_of-3.ensures.is ∙ (λ k. fall (sym last k) (sym first k)) in
     rw three (falls_without i is c.range-part.ensures.sorted absent)
-
-pub returns-clause-fewer : goal.returns-clause-fewer
-returns-clause-fewer c =
-    rw (c.fall_of.ensures.is, c.fall_of-2.ensures.is, c.fall_of-3.ensures.is) (fall_over (option_copied c.next_back-before.result) (option_copied c.next-after.result) c.args.interval.now)

@@ -1,9 +1,8 @@
-use Rattle.std.proofs.Common.{◌≡◌, not, ◌&&◌, sym, ap, ◌∙◌, arith}
+use Rattle.std.proofs.Common.{◌≡◌, not, ◌&&◌, sym, ap, ◌∙◌}
 use Rattle.std.specs.List.{list_any}
 use Rattle.std.specs.Option.{is_some}
-use Rattle.nf_core.specs.Sets.{inserted}
 use Rattle.nf_index.specs.declared.times.Times.{Times}
-use Rattle.nf_index.specs.inner.Orders.{has_end, has_times, times_of, is_same_end, falls}
+use Rattle.nf_index.specs.inner.Orders.{has_end, has_times, times_of, is_same_end}
 use Rattle.nf_index.proofs.FallLemmas.{first_of, first_given}
 use Rattle.nf_index.proofs.PlaceLemmas.{first_passes, some_alike}
 use Rattle.nf_index.proofs.IndexLemmas.{stored_besides, IsIndex-taken}
@@ -20,7 +19,4 @@ returns c =
     c.is_some-others.ensures ∙ some_alike c.next.result ∙ ap is_some (sym (first_given _ _ _ c.next.ensures.steps)) ∙ ap (λ js. is_some (first_of js)) c.with_times.ensures ∙ first_passes (has_times c.own_times-times.result) is ∙ ap (λ u. list_any (has_times u) is) c.own_times-times.ensures.is in
     let left : (t : Times) → has_end c.leave.new.ends.keys t ≡ (has_end c.args.ends.now.keys t && not (not (list_any (has_times (times_of i)) is) && is_same_end (times_of i) t)) =
     λ t. c.leave.ensures t ∙ (λ k. has_end c.args.ends.now.keys t && not (not (others k) && is_same_end (c.own_times-times.ensures.is k) t)) in
-    let changes = c.turns_at-turns.ensures.changes c.requires.absent in
-    let was : c.args.falls ≡ falls (inserted i is) = c.requires.index.counted in
-    let count : c.counted_less.result ≡ falls is = omega (arith, changes, was, c.counted_less.ensures) in
-    IsIndex-taken i is c.args.ends.now.keys c.leave.new.ends.keys c.args.falls c.counted_less.result c.requires.index c.turns_at-turns.ensures.sorted left count
+    IsIndex-taken i is c.args.ends.now.keys c.leave.new.ends.keys c.args.falls c.counted.result c.requires.index c.turns_at-turns.ensures.sorted left c.counted.ensures

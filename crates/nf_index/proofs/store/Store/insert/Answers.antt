@@ -1,4 +1,4 @@
-use Rattle.std.proofs.Common.{◌≡◌, ◌+◌, true, cond, sym, ap, subst, ◌∙◌, rules, arith}
+use Rattle.std.proofs.Common.{◌≡◌, true, cond, sym, ap, subst, ◌∙◌, rules}
 use Rattle.std.specs.Int.{w64}
 use Rattle.std.specs.Int.RustNames.{FitsSigned}
 use Rattle.nf_core.specs.Intervals.{interval_cmp, interval_cmp_total}
@@ -21,9 +21,4 @@ invariant_of-self-in-Ok c =
     let stored : IsStored i = subst IsStored c.interval.view_is (record { in_time = c.interval.invariant; least = (i64_fits _ start).low; most = (i64_fits _ stop).high }) in
     let new : c.insert-2.new.self ≡ inserted i c.self.inside.begins = c.in-Ok.ensures.ok in
     let entered : (t : Times) → has_end c.insert.new.self.keys t ≡ cond (is_same_end (times_of i) t) true (has_end c.self.inside.ends.keys t) = λ t. c.in_ok-entered.ensures.updates.0 t ∙ ap (λ u. cond (is_same_end u t) true (has_end c.self.inside.ends.keys t)) c.own_times-times.ensures.is in
-    let absent = sym c.has.ensures ∙ c.if-has.false in
-    let changes = c.turns_at-turns.ensures.changes absent in
-    let was : c.self.inside.falls ≡ falls c.self.inside.begins = c.self.invariant.counted in
-    let sum : c.in-Some.falls + c.turns_at-turns.result.without ≡ c.self.inside.falls + c.turns_at-turns.result.with = search rules in
-    let count : c.in-Some.falls ≡ falls (inserted i c.self.inside.begins) = omega (arith, changes, was, sum) in
-    rw new (IsIndex-inserted i c.self.inside.begins c.self.inside.ends.keys c.insert.new.self.keys c.self.inside.falls c.in-Some.falls c.self.invariant stored entered count)
+    rw new (IsIndex-inserted i c.self.inside.begins c.self.inside.ends.keys c.insert.new.self.keys c.self.inside.falls c.counted-self-inside.result c.self.invariant stored entered (c.counted-self-inside.ensures ∙ ap falls new))

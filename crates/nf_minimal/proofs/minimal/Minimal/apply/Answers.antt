@@ -6,7 +6,8 @@ use Rattle.nf_core.specs.declared.intervals.Delta.{Delta}
 use Rattle.nf_tally.specs.Numbers.{number, often, is_on}
 use Rattle.nf_tally.specs.Deltas.{Leads}
 use Rattle.nf_tally.proofs.Public.LeadLemmas.{leads_nowhere, lead_lists}
-use Rattle.nf_minimal.specs.Minimals.{Minimal, held_of, delta_between}
+use Rattle.nf_model.specs.Changes.{delta_of}
+use Rattle.nf_minimal.specs.Minimals.{Minimal, held_of}
 use Rattle.nf_minimal.specs.inner.Judged.{IsJudged, IsKept, present}
 use Rattle.nf_minimal.proofs.PresentLemmas.{once_most}
 use Rattle.nf_minimal.proofs.HeldLemmas.{gone_there, come_new, members_now, held_is}
@@ -56,9 +57,9 @@ returns-clause-delta c =
     } in
     let start = subst (λ (d : Delta). Leads (has old) (has old) d) (sym c.new.ensures) (leads_nowhere (has old)) in
     let lead = all.net (has old) (left.net (has old) start) in
-    let lists : c.arrive_all.new.self.net ≡ delta_between old new = lead_lists old new c.arrive_all.new.self.net c.self.invariant.judged.held_set all.judged.held_set lead in
+    let lists : c.arrive_all.new.self.net ≡ delta_of old new = lead_lists old new c.arrive_all.new.self.net c.self.invariant.judged.held_set all.judged.held_set lead in
     let old_is : old ≡ held_of c.args.self =
     held_is (record { full = c.self.inside.full; sources = c.self.inside.numbers }) old c.self.inside.suppressed c.self.invariant ∙ ap (λ (m : Minimal). held_of m) c.self.view_is in
     let new_is : new ≡ held_of (record { full = c.self.inside.full; sources = c.in_ok-numbers.numbers }) =
     held_is (record { full = c.self.inside.full; sources = c.in_ok-numbers.numbers }) new c.arrive_all.new.self.suppressed kept in
-    c.in_ok-delta.ensures ∙ lists ∙ λ k. delta_between (old_is k) (new_is k)
+    c.in_ok-delta.ensures ∙ lists ∙ λ k. delta_of (old_is k) (new_is k)
