@@ -27,6 +27,7 @@ use Rattle.nf_line.specs.Line.{Line, holds_bar}
 use Rattle.nf_line.specs.Readings.{event_of}
 use Rattle.nf_session.specs.inner.Progress.{Handles, IsForeign, LeadsOn, LeavesChange, text_of_change}
 use Rattle.nf_session.specs.declared.reading.Place.{Place}
+use Rattle.nf_session.proofs.WorkLemmas.{event_worth}
 
 -- what one choice of pools has beyond another is named by names of the plan
 pub beyond_within : (plan : Plan) (pools others : ℕ → List Interval) → All (λ (item : Named). item.name < length plan.names) (beyond plan pools others)
@@ -56,7 +57,7 @@ lacks_none is =
     filter_none (λ i. not (has is i)) is (recursion_from_All _ _ (All-weaker _ _ (λ i within. ap not (list_any-from_Contains (eq_by_cmp_equiv interval_cmp_total) i is within)) is (All-contains_itself is)))
 
 -- no pool is beyond itself
-beyond_none : (plan : Plan) (pools : ℕ → List Interval) → beyond plan pools pools ≡ []
+pub beyond_none : (plan : Plan) (pools : ℕ → List Interval) → beyond plan pools pools ≡ []
 beyond_none plan pools = flat_none (λ n. named n (lacking (pools n) (pools n))) (heads plan) (λ n. ap (named n) (lacks_none (pools n)))
 
 -- nothing changes where nothing is entered
@@ -112,7 +113,7 @@ event_text_is content now event made is left = append-nil (event_text content ev
 pub none_handles : (line : Line) (place : Place) (content : Content) → LeadsOn (place.lines + 1) place.last line []
     → Handles line place content (record { lines = place.lines + 1; last = place.last }) content None
 unfolding text_from
-none_handles line place content leads = record { events = []; leads = leads; counted = refl; last_is = refl; content_is = refl; text_is = refl }
+none_handles line place content leads = record { events = []; leads = leads; counted = refl; last_is = refl; content_is = refl; text_is = refl; worth = omega arith }
 
 pub some_handles : (line : Line) (place : Place) (content now : Content) (raw : Raw) (time : ℤ) (made : Option Change) → LeadsOn (place.lines + 1) place.last line (event_of (place.lines + 1) raw ∷ [])
     → ((number : ℕ) → now ≡ entered content (event_of number raw)) → LeavesChange content now made → time ≡ raw.stop
@@ -124,6 +125,7 @@ some_handles line place content now raw time made leads is left timed = record {
   last_is = ap Some timed;
   content_is = is (place.lines + 1);
   text_is = event_text_is content now (event_of (place.lines + 1) raw) made (is (place.lines + 1)) left;
+  worth = event_worth content now (event_of (place.lines + 1) raw) made (is (place.lines + 1));
 }
 
 -- the event of a line among those of no name of the plan

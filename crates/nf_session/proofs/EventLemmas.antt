@@ -1,5 +1,5 @@
 -- An event that the reader of a trace hands on, and where reading ends.
-use Rattle.std.proofs.Common.{[], ◌≢◌, ◌<◌, false, is_some, length-drop, arith, ◌≡◌, ℕ, ◌+◌, ◌-◌, List, length, take, drop, Option, Some, None, refl, sym, ◌∙◌, ap, subst}
+use Rattle.std.proofs.Common.{[], Bool, ◌≢◌, ◌<◌, false, is_some, length-drop, arith, ◌≡◌, ℕ, ◌+◌, ◌-◌, List, length, take, drop, Option, Some, None, refl, sym, ◌∙◌, ap, subst}
 use Rattle.std.specs.Prelude.{Err}
 use Rattle.std.proofs.lemmas.List.{drop-drop}
 use Rattle.nf_core.specs.declared.intervals.Change.{Change}
@@ -8,12 +8,13 @@ use Rattle.nf_io.proofs.Public.{Took-none}
 use Rattle.nf_line.specs.Cutting.{used_of}
 use Rattle.nf_line.specs.Trace.{Trace}
 use Rattle.nf_model.specs.Changes.{Content}
-use Rattle.nf_session.specs.Followers.{EndsBy, Follower}
+use Rattle.nf_session.specs.Followers.{EndsBy, Follower, NeedsNoMemory}
 use Rattle.nf_session.specs.inner.Ends.{follow_end_of}
-use Rattle.nf_session.specs.inner.Events.{after_event, change_made, StopsAt}
-use Rattle.nf_session.specs.inner.Progress.{Halts, LeavesChange, Takes, more_read, standing_of}
+use Rattle.nf_session.specs.inner.Events.{after_event, change_made, following, StopsAt}
+use Rattle.nf_session.specs.inner.Progress.{Halts, LeavesChange, Takes, TakesLast, more_read, standing_of}
 use Rattle.nf_session.specs.declared.fault.Halt.{Halt}
 use Rattle.nf_session.specs.declared.fault.Halt.TheVariants as halt
+use Rattle.nf_session.specs.declared.reader.Reader.{Reader}
 use Rattle.nf_session.proofs.FeedLemmas.{halt_stops, left_over, stops_then, taken_fed}
 
 -- the change of an event is that between the contents, and the plan stays
@@ -65,3 +66,30 @@ moved P piece used more is h =
 pub absent : (o : Option Named) → is_some o ≡ false → o ≡ None
 absent None none = refl
 absent (Some event) none = absurd cc
+
+-- whether an inferer is thrifty changes nothing of what is read and entered
+pub quiet_read : (thrifty : Bool) (content : Content) (reader : Reader) (piece : List ℕ) → NeedsNoMemory (record (following content reader) { thrifty = thrifty }) piece → NeedsNoMemory (following content reader) piece
+quiet_read thrifty content reader piece quiet = record { none_kept = quiet.none_kept; ends = quiet.ends; others = quiet.others }
+
+pub quiet_follower : (thrifty : Bool) (content : Content) (reader : Reader) (piece : List ℕ) → NeedsNoMemory (following content reader) piece → NeedsNoMemory (record (following content reader) { thrifty = thrifty }) piece
+quiet_follower thrifty content reader piece quiet = record { none_kept = quiet.none_kept; ends = quiet.ends; others = quiet.others }
+
+pub follower_takes : (thrifty still : Bool) (content now : Content) (reader next : Reader) (piece rest : List ℕ) (made : Option Change) → Takes (following content reader) piece (following now next) rest made
+    → Takes (record (following content reader) { thrifty = thrifty }) piece (record (following now next) { thrifty = still }) rest made
+follower_takes thrifty still content now reader next piece rest made t =
+    record { enters = record { events = t.enters.events; goes = t.enters.goes; content_is = t.enters.content_is }; text_is = t.text_is; worth = t.worth }
+
+pub follower_takes_last : (thrifty still : Bool) (content now : Content) (reader next : Reader) (made : Option Change) → TakesLast (following content reader) (following now next) made
+    → TakesLast (record (following content reader) { thrifty = thrifty }) (record (following now next) { thrifty = still }) made
+follower_takes_last thrifty still content now reader next made t = record {
+  enters = record {
+    events = t.enters.events;
+    reads = t.enters.reads;
+    counted = t.enters.counted;
+    last_is = t.enters.last_is;
+    kept_is = t.enters.kept_is;
+    content_is = t.enters.content_is;
+  };
+  text_is = t.text_is;
+  worth = t.worth;
+}

@@ -23,6 +23,7 @@ use Rattle.nf_session.specs.declared.fault.Halt.TheVariants as halt
 use Rattle.nf_session.specs.inner.Ends.{follow_end_of}
 use Rattle.nf_session.proofs.FollowTextLemmas.{text_from-append}
 use Rattle.nf_session.proofs.StandingLemmas.{last_end-append}
+use Rattle.nf_session.proofs.WorkLemmas.{worth_then}
 
 -- events before others, and then a trace
 after_both : (events more : List Event) (trace : Trace) → after_events events (after_events more trace) ≡ after_events (events ++ more) trace
@@ -64,7 +65,7 @@ text_then from piece to rest a more = text_from-append from.content a.events mor
 -- nothing was taken yet, or lines of which nothing is entered
 pub takes_none : (from : Follower) (piece : List ℕ) → Takes from piece from piece None
 unfolding text_from enters_none
-takes_none from piece = record { enters = enters_none from piece; text_is = refl }
+takes_none from piece = record { enters = enters_none from piece; text_is = refl; worth = omega arith }
 
 pub takes_then : (from : Follower) (piece : List ℕ) (to : Follower) (rest : List ℕ) (next : Follower) (left : List ℕ) (made : Option Change) → Takes from piece to rest None → to.content ≡ from.content → Takes to rest next left made → Takes from piece next left made
 unfolding enters_then
@@ -74,6 +75,7 @@ takes_then from piece to rest next left made a same b = record {
       text_then from piece to rest a.enters b.enters.events
       ∙ ap (λ text. text ++ text_from to.content b.enters.events) a.text_is
       ∙ b.text_is ∙ ap (λ (content : Content). text_of_change content.plan made) same;
+  worth = worth_then from.content to.content next.content a.enters.events b.enters.events made a.enters.content_is same b.worth;
 }
 
 module _ (from : Follower) (piece : List ℕ) (to : Follower) (rest : List ℕ) (first middle now : Option (List ℕ)) (a : HasFed from piece to rest first middle) where

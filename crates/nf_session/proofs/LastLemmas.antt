@@ -64,6 +64,7 @@ module _ (content : Content) (place : Place) (liner : cutting.Content) (valid : 
           content_is = refl;
         };
         text_is = refl;
+        worth = omega arith;
       }
 
   -- a last line
@@ -90,6 +91,7 @@ module _ (content : Content) (place : Place) (liner : cutting.Content) (valid : 
         content_is = h.content_is;
       };
       text_is = h.text_is;
+      worth = h.worth;
     }
 
     pub last_halts : (end : Halt) → HaltsAt (place.lines + 1) place.last (line_within handed) end → Halts end (last_read (standing_of from))

@@ -1,3 +1,4 @@
+pub mod WorkLemmas
 pub mod EnteringLemmas
 pub mod FollowTextLemmas
 pub mod ReadLineLemmas
@@ -14,4 +15,8 @@ pub mod ReplayedTextLemmas
 pub mod PieceReadLemmas
 pub mod SessionTextLemmas
 pub mod SessionLemmas
+pub mod SpendingLemmas
+pub mod SessionWorkLemmas
+pub mod DrillLemmas
+pub mod DrillHeldLemmas
 pub mod InferredLemmas

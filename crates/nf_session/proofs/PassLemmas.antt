@@ -21,7 +21,7 @@ use Rattle.nf_session.proofs.StepLemmas.{behind_feed, cut_line, feed_goes, feed_
 
 -- a follower by what it consists of
 abbrev pub follower_at : Content → ℕ → Option ℤ → List ℕ → Follower
-follower_at content lines last kept = record { content = content; lines = lines; last = last; kept = kept }
+follower_at content lines last kept = record { content = content; lines = lines; last = last; kept = kept; thrifty = false }
 
 none_by : (b : Bool) (text : List ℕ) → cond b (Some text) None ≡ None → b ≡ false
 none_by true text e = absurd cc
@@ -71,6 +71,7 @@ module _ (content : Content) (place : Place) (liner : cutting.Content) (piece : 
           content_is = refl;
         };
         text_is = refl;
+        worth = omega arith;
       }
 
   pub too_long : liner.was_long ≡ false → is_long liner piece ≡ true → Halts (halt.Refused (trace_fault.Long (place.lines + 1))) (more_read (standing_of from) piece)
@@ -97,6 +98,7 @@ module _ (content : Content) (place : Place) (liner : cutting.Content) (piece : 
             content_is = h.content_is;
           };
           text_is = h.text_is;
+          worth = h.worth;
         }
 
     pub line_halts : (end : Halt) → HaltsAt (place.lines + 1) place.last (line_within handed) end → Halts end (more_read (standing_of from) piece)

@@ -1,5 +1,5 @@
 -- How a session over a trace ends, from where it stood before its last piece.
-use Rattle.std.proofs.Common.{◌≡◌, ◌≢◌, ℕ, ◌+◌, ◌<◌, ◌≤◌, Bool, List, [], ◌++◌, length, take, drop, option_map, min, refl, sym, ap, ◌∙◌, subst, arith, Option, Some, IfSome, Ok, Err, ◌⊎◌, inl, inr, length-append}
+use Rattle.std.proofs.Common.{◌≡◌, ◌≢◌, ℕ, ◌+◌, ◌<◌, ◌≤◌, Bool, IsTrue, List, [], ◌++◌, length, take, drop, option_map, min, refl, sym, ap, ◌∙◌, subst, arith, Option, Some, IfSome, Ok, Err, ◌⊎◌, inl, inr, length-append}
 use Rattle.std.proofs.lemmas.List.{take-append-drop, drop_all}
 use Rattle.nf_core.specs.Plan.{Plan}
 use Rattle.nf_io.specs.Bytes.{Took, TookAtLeast, Gives}
@@ -10,6 +10,7 @@ use Rattle.nf_line.specs.Lines.{with_last}
 use Rattle.nf_line.specs.Trace.{Done, TooLong, Trace, trace, trace_over, trace_so_far, trace_limit}
 use Rattle.nf_line.specs.declared.fault.TraceFault.{TraceFault}
 use Rattle.nf_line.specs.declared.fault.TraceFault.TheVariants as trace_fault
+use Rattle.nf_session.specs.Costs.{KeepsToWork}
 use Rattle.nf_session.specs.Follow.{follow_text, follow_text_by, due}
 use Rattle.nf_session.specs.Followers.{EndsBy, Follower, StandsAtEndOf, StandsFor}
 use Rattle.nf_session.specs.Sessions.{Ends, EndsInPiece, LeftOfTrace, LeftRefused, Output, piece_limit}
@@ -252,22 +253,26 @@ module _ (plan : Plan) (full : Bool) (bytes : List ℕ) where
       }
 
 -- a session goes on from before the first byte
-pub goes_first : (how : Announcing) (plan : Plan) (full : Bool) (follower : Follower) (shelf : ShelfTells) (out : SinkTells) → StandsFor plan full [] follower → GoesOn how plan full 0 follower shelf shelf out out
-goes_first how plan full follower shelf out stands = record {
+pub goes_first : (how : Announcing) (plan : Plan) (full thrifty : Bool) (follower : Follower) (shelf : ShelfTells) (out : SinkTells) (steps : ℕ) → StandsFor plan full [] follower → follower.thrifty ≡ thrifty
+    → GoesOn how plan full thrifty 0 follower shelf shelf out out steps steps
+goes_first how plan full thrifty follower shelf out steps stands is = record {
   fed = [];
   read_is = refl;
   few = omega arith;
   stands = stands;
   behind = λ bytes told. stands_first plan full bytes how shelf.rest out.taken told;
   causes = causes_first shelf out;
+  thrifty_is = is;
+  work = λ t. omega arith;
 }
 
 -- and with each piece
-pub goes_more : (how : Announcing) (plan : Plan) (full : Bool) (buffer : List ℕ) (read count : ℕ) (follower next : Follower) (shelf shelf_now shelf_next : ShelfTells) (out out_now out_next : SinkTells)
-    → (was : GoesOn how plan full read follower shelf shelf_now out out_now) → read + count ≤ trace_limit → length (take count buffer) ≡ count → IfSome shelf_now.rest (Gives buffer count)
+pub goes_more : (how : Announcing) (plan : Plan) (full thrifty : Bool) (buffer : List ℕ) (read count : ℕ) (follower next : Follower) (shelf shelf_now shelf_next : ShelfTells) (out out_now out_next : SinkTells)
+    (steps steps_now steps_next : ℕ) → (was : GoesOn how plan full thrifty read follower shelf shelf_now out out_now steps steps_now) → read + count ≤ trace_limit → length (take count buffer) ≡ count → IfSome shelf_now.rest (Gives buffer count)
     → (filled : List ℕ) (most : ℕ) → ReadsPiece filled most (Ok count) shelf_now shelf_next → HandlesPiece how plan full was.fed (take count buffer) (Ok next) out_now.taken out_next.taken → out_now.faults ≤ out_next.faults
-    → GoesOn how plan full (read + count) next shelf shelf_next out out_next
-goes_more how plan full buffer read count follower next shelf shelf_now shelf_next out out_now out_next was few size gives filled most reads took later = record {
+    → next.thrifty ≡ follower.thrifty → (IsTrue thrifty → KeepsToWork plan full (trace_so_far was.fed).events (trace_so_far (was.fed ++ take count buffer)).events steps_now steps_next)
+    → GoesOn how plan full thrifty (read + count) next shelf shelf_next out out_next steps steps_next
+goes_more how plan full thrifty buffer read count follower next shelf shelf_now shelf_next out out_now out_next steps steps_now steps_next was few size gives filled most reads took later still kept = record {
   fed = was.fed ++ take count buffer;
   read_is = omega (arith, length-append was.fed (take count buffer), size, was.read_is);
   few = few;
@@ -275,4 +280,6 @@ goes_more how plan full buffer read count follower next shelf shelf_now shelf_ne
   behind = λ bytes told.
       behind_more plan full bytes how was.fed buffer count next shelf_now.rest shelf_next.rest out.taken out_now.taken out_next.taken (was.behind bytes told) size gives reads.rest took.writes;
   causes = causes_more filled most count shelf shelf_now shelf_next out out_now out_next was.causes reads later;
+  thrifty_is = still ∙ was.thrifty_is;
+  work = λ t. omega (arith, was.work t, kept t);
 }

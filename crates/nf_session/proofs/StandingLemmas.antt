@@ -179,9 +179,9 @@ module _ (plan : Plan) (full : Bool) (bytes : List ℕ) (from : Follower) (s : S
   }
 
 -- before the first byte
-pub stands_first : (plan : Plan) (full : Bool) (content : Content) → content ≡ no_inputs plan full → StandsFor plan full [] (record { content = content; lines = 0; last = None; kept = [] })
+pub stands_first : (plan : Plan) (full : Bool) (content : Content) (thrifty : Bool) → content ≡ no_inputs plan full → StandsFor plan full [] (record { content = content; lines = 0; last = None; kept = []; thrifty = thrifty })
 unfolding content_after trace_over
-stands_first plan full content is =
+stands_first plan full content thrifty is =
     let nothing : CanBeRead [] = record { within = omega arith; no_feed = refl } in
     let none : trace_so_far [] ≡ record { events = []; ending = Done } = ap (λ pieces. trace_over 1 None Done (map line pieces)) (cut_off_none [] nothing) in
     record {

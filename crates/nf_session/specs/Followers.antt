@@ -10,12 +10,13 @@ use Rattle.nf_session.specs.Follow.{content_after, due, follow_text}
 use Rattle.nf_session.specs.declared.fault.FollowEnd.{FollowEnd}
 use Rattle.nf_session.specs.declared.fault.FollowEnd.TheVariants as follow_end
 
--- a follower between two pieces of a trace: its inferer's content, how many lines ended so far, the end of the last accepted one, and what is kept of the next one
+-- a follower between two pieces of a trace: its inferer's content, how many lines ended so far, the end of the last accepted one, what is kept of the next one, and whether its inferer is thrifty
 pub record Follower : Type 0 where
   pub content : Content
   pub lines : ℕ
   pub last : Option ℤ
   pub kept : List ℕ
+  pub thrifty : Bool
 
 -- what a follower under a plan stands for: these bytes of a trace
 pub record StandsFor (plan : Plan) (full : Bool) (bytes : List ℕ)

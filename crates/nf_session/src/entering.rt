@@ -1,6 +1,6 @@
 //! The event that a line of a trace is, and writing what entering it changes.
 
-ghost use Rattle.std.specs.Prelude.{◌≡◌, ◌≢◌, ℕ, [], ◌∷◌, ◌+◌, ◌<◌, ◌≤◌, ◌^◌, List, fold, length, position, bytes_eq, false, All, IfOk, IfErr, IfSome, IsOk, OnOk, Some, None};
+ghost use Rattle.std.specs.Prelude.{◌≡◌, ◌≢◌, ℕ, [], ◌∷◌, ◌+◌, ◌<◌, ◌≤◌, ◌^◌, List, IsTrue, fold, length, position, bytes_eq, false, All, IfOk, IfErr, IfSome, IsOk, OnOk, Some, None};
 ghost use Rattle.nf_core.specs.Plan.{keys_of};
 ghost use Rattle.nf_core.specs.declared.intervals.Named.{Named};
 ghost use Rattle.nf_io.specs.Bytes.{Took};
@@ -13,6 +13,7 @@ ghost use Rattle.nf_line.specs.Trace.{Done, trace_over};
 ghost use Rattle.nf_session.specs.Follow.{entered};
 ghost use Rattle.nf_model.specs.Changes.{Content};
 ghost use Rattle.nf_session.specs.inner.Events.{after_event, change_made, FitsPlan};
+ghost use Rattle.nf_session.specs.inner.Spending.{event_work};
 ghost use Rattle.nf_session.specs.inner.Progress.{Failed as FailedAt, Handles, HaltsAt, IsForeign, IsQuiet, text_of_change};
 
 use crate::fault::{FollowEnd, Halt};
@@ -127,6 +128,9 @@ pub(crate) fn enter_event<I: Inferer + Drop, L: Ledger>(
     requires fits { IfSome event (FitsPlan plan.now) }
     ensures entered { IfOk result (λ r. I.content r.0 ≡ after_event (I.content inferer) event) }
     ensures change { IfOk result (λ r. r.1 ≡ change_made (I.content inferer) event) }
+    ensures thrifty { IfOk result (λ r. I.is_thrifty r.0 ≡ I.is_thrifty inferer) }
+    ensures work { IsTrue (I.is_thrifty inferer)
+        → steps.new ≤ steps.old + event_work (I.content inferer) event }
     ensures needs_no_memory { event ≡ None → IsOk result }
 {
     match event {

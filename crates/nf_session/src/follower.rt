@@ -1,13 +1,15 @@
 //! Following a trace that comes in pieces, line by line.
 
-ghost use Rattle.std.specs.Prelude.{◌≡◌, ◌≢◌, ℕ, Bool, List, [], ◌++◌, ◌+◌, ◌<◌, ◌≤◌, ◌^◌, drop, length, IfOk, IfErr, None};
+ghost use Rattle.std.specs.Prelude.{◌≡◌, ◌≢◌, ℕ, Bool, IsTrue, List, [], ◌++◌, ◌+◌, ◌<◌, ◌≤◌, ◌^◌, drop, length, IfOk, OnErr, IfErr, None};
 ghost use Rattle.nf_core.specs.Plan.{Plan as PlanOf};
 ghost use Rattle.nf_io.specs.Causes.{Rose};
 ghost use Rattle.nf_line.specs.Trace.{trace, trace_limit, trace_so_far};
 ghost use Rattle.nf_model.specs.Changes.{no_inputs};
+ghost use Rattle.nf_session.specs.Costs.{FeedsWithinWork, FinishesWithinWork};
 ghost use Rattle.nf_session.specs.Followers.{EndsBy, Feeds, Finishes, NeedsNoMemory, StandsAtEndOf, StandsFor};
 ghost use Rattle.nf_session.specs.inner.Progress.{standing_of, last_read, more_read, HasFed, IsQuiet, LeavesChange, Stops, Takes, TakesLast};
 ghost use Rattle.nf_session.specs.inner.Events.{StopsAt};
+ghost use Rattle.nf_session.specs.inner.Spending.{last_work, work_left};
 
 use crate::entering::{announce, enter_event};
 use crate::fault::{FollowEnd, Halt};
@@ -22,9 +24,9 @@ use std::marker::Model;
 use std::sync::ledger::Ledger;
 
 /// A follower of a trace under a plan: an inferer, and where it stands in the trace. Contracts see
-/// the inferer's content, how many lines ended so far, the end of the last accepted one, and what
-/// is kept of a line that hasn't ended (`Follower` of specs/Followers). Which bytes of a trace it
-/// stands for is `StandsFor` there.
+/// the inferer's content, how many lines ended so far, the end of the last accepted one, what is
+/// kept of a line that hasn't ended, and whether the inferer is thrifty (`Follower` of
+/// specs/Followers). Which bytes of a trace it stands for is `StandsFor` there.
 #[derive(Drop)]
 pub struct Follow<I: Inferer> {
     plan: Plan,
@@ -47,6 +49,7 @@ impl<I: Inferer> Model for Follow<I> {
       lines = f.reader.place.lines;
       last = f.reader.place.last;
       kept = f.reader.liner.kept;
+      thrifty = I.is_thrifty f.inferer;
     } };
 
     ghost invariant = { λ f. ((I.content f.inferer).plan ≡ f.plan)
@@ -86,6 +89,7 @@ impl<I: Inferer + Drop> Follow<I> {
           lines = 0;
           last = None;
           kept = [];
+          thrifty = I.is_thrifty inferer;
         } }
         ensures stands { StandsFor plan (I.content inferer).full [] result }
     {
@@ -109,6 +113,9 @@ impl<I: Inferer + Drop> Follow<I> {
     /// be kept is already too long; the announcements of the lines before it were written. A failed
     /// write leaves less than what was due, and want of memory the announcements of whole lines.
     /// None of them leaves the follower.
+    ///
+    /// With a thrifty inferer the counter of evaluated expressions rises by at most the work of the
+    /// accepted lines that the piece ends (`FeedsWithinWork` of specs/Costs), on every answer.
     pub fn feed<O: Sink, L: Ledger>(
         self,
         alloc: Global,
@@ -121,6 +128,8 @@ impl<I: Inferer + Drop> Follow<I> {
             → length bytes + length piece.now ≤ trace_limit → StandsFor plan full bytes self
             → Feeds plan full bytes piece.now result
             (O.tells out.old).taken (O.tells out.new).taken }
+        ensures thrifty { IfOk result (λ follow. follow.thrifty ≡ self.thrifty) }
+        ensures work { FeedsWithinWork self piece.now steps.old steps.new }
         ensures needs_no_memory { NeedsNoMemory self piece.now → result ≢ Err FollowEnd.NoMemory }
         ensures never_too_long { result ≢ Err (FollowEnd.Trace TraceFault.TooLong) }
         ensures cause { result ≡ Err FollowEnd.WriteFault
@@ -143,6 +152,9 @@ impl<I: Inferer + Drop> Follow<I> {
     ///
     /// A refusal comes exactly where that line is refused. A failed write leaves less than its
     /// announcements, and want of memory none of them.
+    ///
+    /// With a thrifty inferer the counter of evaluated expressions rises by at most the work of that
+    /// line (`FinishesWithinWork` of specs/Costs), on every answer.
     pub fn finish<O: Sink, L: Ledger>(
         self,
         alloc: Global,
@@ -152,6 +164,8 @@ impl<I: Inferer + Drop> Follow<I> {
         ensures finishes { (plan : PlanOf) (full : Bool) (bytes : List ℕ)
             → length bytes < trace_limit → StandsFor plan full bytes self
             → Finishes plan full bytes result (O.tells out.old).taken (O.tells out.new).taken }
+        ensures thrifty { IfOk result (λ follow. follow.thrifty ≡ self.thrifty) }
+        ensures work { FinishesWithinWork self steps.old steps.new }
         ensures never_too_long { result ≢ Err (FollowEnd.Trace TraceFault.TooLong) }
         ensures cause { result ≡ Err FollowEnd.WriteFault
             → Rose (O.tells out.old).faults (O.tells out.new).faults }
@@ -185,6 +199,8 @@ impl<I: Inferer + Drop> Follow<I> {
         ensures ends { (plan : PlanOf) (full : Bool) (bytes : List ℕ)
             → length bytes + length piece.now ≤ trace_limit → StandsFor plan full bytes self
             → EndsBy (trace_so_far (bytes ++ piece.now)).ending result }
+        ensures thrifty { IfOk result (λ follow. follow.thrifty ≡ self.thrifty) }
+        ensures work { FeedsWithinWork self piece.now steps.old steps.new }
         ensures never_too_long { result ≢ Err (FollowEnd.Trace TraceFault.TooLong) }
         ensures writes_nothing { result ≢ Err FollowEnd.WriteFault }
     {
@@ -213,6 +229,8 @@ impl<I: Inferer + Drop> Follow<I> {
         ensures ends { (plan : PlanOf) (full : Bool) (bytes : List ℕ)
             → length bytes < trace_limit → StandsFor plan full bytes self
             → EndsBy (trace bytes).ending result }
+        ensures thrifty { IfOk result (λ follow. follow.thrifty ≡ self.thrifty) }
+        ensures work { FinishesWithinWork self steps.old steps.new }
         ensures never_too_long { result ≢ Err (FollowEnd.Trace TraceFault.TooLong) }
         ensures writes_nothing { result ≢ Err FollowEnd.WriteFault }
     {
@@ -238,6 +256,11 @@ impl<I: Inferer + Drop> Follow<I> {
         ensures fed { IfOk result (λ r.
             HasFed self piece.now r.0 (drop r.1 piece.now)
             (O.tells out.old).taken (O.tells out.new).taken) }
+        ensures thrifty { IfOk result (λ r. r.0.thrifty ≡ self.thrifty) }
+        ensures work { IsTrue self.thrifty → IfOk result (λ r.
+            steps.new + work_left r.0 (drop r.1 piece.now) ≤ steps.old + work_left self piece.now) }
+        ensures stopped_work { IsTrue self.thrifty
+            → OnErr result (steps.new ≤ steps.old + work_left self piece.now) }
         ensures stops { IfErr result (λ end. Stops end self.content
             (more_read (standing_of self) piece.now)
             (O.tells out.old).taken (O.tells out.new).taken) }
@@ -276,6 +299,11 @@ impl<I: Inferer + Drop> Follow<I> {
         ensures change { IfOk result (λ r.
             LeavesChange self.content r.follow.content r.change) }
         ensures plan { IfOk result (λ r. r.follow.content.plan ≡ self.content.plan) }
+        ensures thrifty { IfOk result (λ r. r.follow.thrifty ≡ self.thrifty) }
+        ensures work { IsTrue self.thrifty → IfOk result (λ r. steps.new
+            + work_left r.follow (drop r.used piece.now) ≤ steps.old + work_left self piece.now) }
+        ensures stopped_work { IsTrue self.thrifty
+            → OnErr result (steps.new ≤ steps.old + work_left self piece.now) }
         ensures halts { IfErr result (λ halt.
             StopsAt halt self.content (more_read (standing_of self) piece.now)) }
         ensures quiet { NeedsNoMemory self piece.now → IsQuiet (λ r. r.change) result }
@@ -312,6 +340,9 @@ impl<I: Inferer + Drop> Follow<I> {
         ensures takes { self.lines + 1 < 2 ^ 64 → IfOk result (λ r. TakesLast self r.0 r.1) }
         ensures change { IfOk result (λ r. LeavesChange self.content r.0.content r.1) }
         ensures plan { IfOk result (λ r. r.0.content.plan ≡ self.content.plan) }
+        ensures thrifty { IfOk result (λ r. r.0.thrifty ≡ self.thrifty) }
+        ensures work { self.lines + 1 < 2 ^ 64 → IsTrue self.thrifty
+            → steps.new ≤ steps.old + last_work self }
         ensures halts { self.lines + 1 < 2 ^ 64
             → IfErr result (λ halt. StopsAt halt self.content (last_read (standing_of self))) }
         ensures never_too_long { result ≢ Err (Halt.Refused TraceFault.TooLong) }

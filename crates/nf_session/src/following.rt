@@ -1,7 +1,9 @@
 //! Following the trace that is read from a shelf.
 
-ghost use Rattle.std.specs.Prelude.{◌≡◌, List, ℕ, Some};
+ghost use Rattle.std.specs.Prelude.{◌≡◌, ◌≤◌, ◌+◌, List, ℕ, Some, IsTrue};
 ghost use Rattle.nf_model.specs.Changes.{no_inputs};
+ghost use Rattle.nf_line.specs.Trace.{trace};
+ghost use Rattle.nf_session.specs.Costs.{work_of};
 ghost use Rattle.nf_session.specs.Sessions.{Ends, HasCauses, followed};
 
 use crate::fault::SessionEnd;
@@ -20,6 +22,9 @@ use std::sync::ledger::Ledger;
 /// (`TraceFault::TooLong`); no read is made after it is known. A read fault comes only where the shelf failed in
 /// this call, at its last call, and leaves the announcements of the lines that ended in the bytes read; a write
 /// fault comes only where the output failed in this call; want of memory leaves the announcements of whole lines.
+///
+/// With a thrifty inferer the counter of evaluated expressions rises by at most the work of the trace (`work_of` of
+/// specs/Costs), on every answer.
 pub fn follow<I: Inferer + Drop, F: Shelf, O: Sink, L: Ledger>(
     alloc: Global,
     plan: Plan,
@@ -32,6 +37,9 @@ pub fn follow<I: Inferer + Drop, F: Shelf, O: Sink, L: Ledger>(
     ensures ends { (bytes : List ℕ) → (F.tells shelf.old).rest ≡ Some bytes
         → Ends (followed plan (I.content inferer).full bytes) bytes result
         (F.tells shelf.new).rest (O.tells out.old).taken (O.tells out.new).taken }
+    ensures work { IsTrue (I.is_thrifty inferer)
+        → (bytes : List ℕ) → (F.tells shelf.old).rest ≡ Some bytes → steps.new
+        ≤ steps.old + work_of plan (I.content inferer).full (trace bytes).events }
     ensures causes { HasCauses result
         (F.tells shelf.old) (F.tells shelf.new) (O.tells out.old) (O.tells out.new) }
 {

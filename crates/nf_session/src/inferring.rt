@@ -1,8 +1,9 @@
 //! Inferring the intervals of a whole trace that is read from a shelf.
 
-ghost use Rattle.std.specs.Prelude.{◌≡◌, List, [], ℕ, Some};
+ghost use Rattle.std.specs.Prelude.{◌≡◌, ◌≤◌, ◌+◌, List, [], ℕ, Some, IsTrue};
 ghost use Rattle.nf_line.specs.Trace.{Done, trace};
 ghost use Rattle.nf_model.specs.Changes.{no_inputs};
+ghost use Rattle.nf_session.specs.Costs.{work_of};
 ghost use Rattle.nf_session.specs.Sessions.{Ends, HasCauses, inferred};
 
 use crate::fault::SessionEnd;
@@ -23,6 +24,9 @@ use std::sync::ledger::Ledger;
 /// (`TraceFault::TooLong`); no read is made after it is known. A read fault comes only where the shelf failed in
 /// this call, at its last call; a write fault comes only where the output failed in this call, and only once the
 /// trace was read to its end and accepted. Nothing is written before that.
+///
+/// With a thrifty inferer the counter of evaluated expressions rises by at most the work of the trace (`work_of` of
+/// specs/Costs), on every answer.
 pub fn infer<I: Inferer + Drop, F: Shelf, O: Sink, L: Ledger>(
     alloc: Global,
     plan: Plan,
@@ -38,6 +42,9 @@ pub fn infer<I: Inferer + Drop, F: Shelf, O: Sink, L: Ledger>(
     ensures written_last { result ≡ Err SessionEnd.WriteFault
         → (bytes : List ℕ) → (F.tells shelf.old).rest ≡ Some bytes
         → ((trace bytes).ending ≡ Done) × ((F.tells shelf.new).rest ≡ Some []) }
+    ensures work { IsTrue (I.is_thrifty inferer)
+        → (bytes : List ℕ) → (F.tells shelf.old).rest ≡ Some bytes → steps.new
+        ≤ steps.old + work_of plan (I.content inferer).full (trace bytes).events }
     ensures causes { HasCauses result
         (F.tells shelf.old) (F.tells shelf.new) (O.tells out.old) (O.tells out.new) }
 {

@@ -11,18 +11,21 @@
 //! nf_announce; above stands the program.
 #![tactic(auto)]
 
+mod drilling;
 mod entering;
 mod fault;
 mod follower;
 mod following;
 mod inferring;
 mod laws;
+mod making;
 mod pieces;
 mod reader;
 mod reading;
 mod replay_laws;
 mod session;
 
+pub use drilling::{Summary, drill};
 pub use fault::{FollowEnd, SessionEnd};
 pub use follower::Follow;
 pub use following::follow;

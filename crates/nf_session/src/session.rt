@@ -1,10 +1,11 @@
 //! A session over the whole trace that is read from a shelf.
 
-ghost use Rattle.std.specs.Prelude.{◌≡◌, ◌≢◌, ◌+◌, ◌<◌, ◌≤◌, ◌^◌, ℕ, Bool, List, IfOk, length, Some};
+ghost use Rattle.std.specs.Prelude.{◌≡◌, ◌≢◌, ◌+◌, ◌<◌, ◌≤◌, ◌^◌, ℕ, Bool, IsTrue, List, IfOk, length, Some};
 ghost use Rattle.nf_core.specs.Plan.{Plan as PlanOf};
 ghost use Rattle.nf_io.specs.Causes.{Rose};
-ghost use Rattle.nf_line.specs.Trace.{trace_limit};
+ghost use Rattle.nf_line.specs.Trace.{trace, trace_limit};
 ghost use Rattle.nf_model.specs.Changes.{no_inputs};
+ghost use Rattle.nf_session.specs.Costs.{work_of, FeedsWithinWork, FinishesWithinWork};
 ghost use Rattle.nf_session.specs.Followers.{StandsFor};
 ghost use Rattle.nf_session.specs.Sessions.{Ends, HasCauses};
 ghost use Rattle.nf_session.specs.inner.Announcing.{StandsBehindAll, HandlesLast, HandlesPiece, written_by};
@@ -43,6 +44,9 @@ pub(crate) fn run_session<I: Inferer + Drop, F: Shelf, O: Sink, L: Ledger>(
         (F.tells shelf.new).rest (O.tells out.old).taken (O.tells out.new).taken }
     ensures stands { (bytes : List ℕ) → (F.tells shelf.old).rest ≡ Some bytes
         → IfOk result (StandsBehindAll plan (I.content inferer).full bytes (F.tells shelf.new).rest) }
+    ensures work { IsTrue (I.is_thrifty inferer)
+        → (bytes : List ℕ) → (F.tells shelf.old).rest ≡ Some bytes → steps.new
+        ≤ steps.old + work_of plan (I.content inferer).full (trace bytes).events }
     ensures silent { announcing ≡ Announcing.Nothing → result ≢ Err SessionEnd.WriteFault }
     ensures causes { HasCauses result
         (F.tells shelf.old) (F.tells shelf.new) (O.tells out.old) (O.tells out.new) }
@@ -76,6 +80,8 @@ fn handle_piece<I: Inferer + Drop, O: Sink, L: Ledger>(
         → length bytes + length piece.now ≤ trace_limit → StandsFor plan full bytes follower
         → HandlesPiece announcing plan full bytes piece.now result
         (O.tells out.old).taken (O.tells out.new).taken }
+    ensures thrifty { IfOk result (λ next. next.thrifty ≡ follower.thrifty) }
+    ensures work { FeedsWithinWork follower piece.now steps.old steps.new }
     ensures never_too_long { result ≢ Err (FollowEnd.Trace TraceFault.TooLong) }
     ensures silent { announcing ≡ Announcing.Nothing → result ≢ Err FollowEnd.WriteFault }
     ensures cause { result ≡ Err FollowEnd.WriteFault
@@ -100,6 +106,7 @@ fn handle_last<I: Inferer + Drop, O: Sink, L: Ledger>(
         → length bytes < trace_limit → StandsFor plan full bytes follower
         → HandlesLast announcing plan full bytes result
         (O.tells out.old).taken (O.tells out.new).taken }
+    ensures work { FinishesWithinWork follower steps.old steps.new }
     ensures never_too_long { result ≢ Err (FollowEnd.Trace TraceFault.TooLong) }
     ensures silent { announcing ≡ Announcing.Nothing → result ≢ Err FollowEnd.WriteFault }
     ensures cause { result ≡ Err FollowEnd.WriteFault

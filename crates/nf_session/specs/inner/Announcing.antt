@@ -1,9 +1,10 @@
 -- Handling a trace piece by piece, with the changes of its lines announced or not.
-use Rattle.std.specs.Prelude.{◌≡◌, ℕ, ◌≤◌, Bool, List, [], ◌++◌, length, take, drop, IfOk, Option, Some, Result, Ok}
+use Rattle.std.specs.Prelude.{◌≡◌, ℕ, ◌+◌, ◌≤◌, Bool, IsTrue, List, [], ◌++◌, length, take, drop, IfOk, Option, Some, Result, Ok}
 use Rattle.nf_core.specs.Plan.{Plan}
 use Rattle.nf_io.specs.Bytes.{Took}
 use Rattle.nf_io.specs.Tells.{ShelfTells, SinkTells}
 use Rattle.nf_line.specs.Trace.{Event, trace, trace_limit, trace_so_far}
+use Rattle.nf_session.specs.Costs.{work_of}
 use Rattle.nf_session.specs.Follow.{due}
 use Rattle.nf_session.specs.Followers.{EndsBy, Follower, StandsAtEndOf, StandsFor, Writes}
 use Rattle.nf_session.specs.Sessions.{EndsInPiece, HasCauses, Output, at_end, followed}
@@ -48,9 +49,11 @@ pub record StandsBehind (output : Output) (bytes fed : List ℕ) (rest before no
   pub taken : Took before now (output.due_at (length fed))
 
 -- a session goes on: the bytes that were read were fed to a follower that stands for them, they aren't too many, no
--- fault came, and where the shelf told the trace the session stands behind them
-pub record GoesOn (how : Announcing) (plan : Plan) (full : Bool) (read : ℕ) (follower : Follower)
-    (shelf shelf_now : ShelfTells) (out out_now : SinkTells) : Type 0 where
+-- fault came, and where the shelf told the trace the session stands behind them; where its inferer is thrifty, a
+-- counter rose by at most the work of their accepted lines
+pub record GoesOn (how : Announcing) (plan : Plan) (full thrifty : Bool) (read : ℕ)
+    (follower : Follower) (shelf shelf_now : ShelfTells) (out out_now : SinkTells)
+    (steps steps_now : ℕ) : Type 0 where
   pub fed : List ℕ
   pub read_is : read ≡ length fed
   pub few : read ≤ trace_limit
@@ -58,6 +61,8 @@ pub record GoesOn (how : Announcing) (plan : Plan) (full : Bool) (read : ℕ) (f
   pub behind : (bytes : List ℕ) → shelf.rest ≡ Some bytes
       → StandsBehind (written_by how plan full bytes) bytes fed shelf_now.rest out.taken out_now.taken
   pub causes : HasCauses {A = Unit {0}} (Ok tt) shelf shelf_now out out_now
+  pub thrifty_is : follower.thrifty ≡ thrifty
+  pub work : IsTrue thrifty → steps_now ≤ steps + work_of plan full (trace_so_far fed).events
 
 -- a follower stands at the end of a trace that was read to its end
 pub record StandsBehindAll (plan : Plan) (full : Bool) (bytes : List ℕ) (rest : Option (List ℕ))

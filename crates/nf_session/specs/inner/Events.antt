@@ -11,13 +11,14 @@ use Rattle.nf_session.specs.inner.Progress.{Stops}
 use Rattle.nf_session.specs.declared.fault.Halt.{Halt}
 use Rattle.nf_session.specs.declared.reader.Reader.{Reader}
 
--- a follower by its inferer's content and its reader
+-- a follower by its inferer's content and its reader; nothing that is said of reading depends on whether the inferer is thrifty
 abbrev pub following : Content → Reader → Follower
 following content reader = record {
   content = content;
   lines = reader.place.lines;
   last = reader.place.last;
   kept = reader.liner.kept;
+  thrifty = false;
 }
 
 -- a content after an event that is to be entered, where there is one

@@ -1,5 +1,5 @@
 -- How far the lines of a trace were read, and what was done with them.
-use Rattle.std.specs.Prelude.{◌≡◌, ℕ, ◌+◌, ℤ, List, [], ◌∷◌, ◌++◌, length, fold, take, Option, Some, None, position, bytes_eq, Result, Ok, Err, ⊤}
+use Rattle.std.specs.Prelude.{◌≡◌, ℕ, ◌+◌, ◌≤◌, ℤ, List, [], ◌∷◌, ◌++◌, length, fold, take, Option, Some, None, position, bytes_eq, Result, Ok, Err, ⊤}
 use Rattle.nf_core.specs.declared.intervals.Change.{Change}
 use Rattle.nf_io.specs.Bytes.{Took, TookPart}
 use Rattle.nf_announce.specs.Announcements.{change_text}
@@ -13,6 +13,8 @@ use Rattle.nf_line.specs.Standing.{Standing, read_on}
 use Rattle.nf_line.specs.Trace.{Event, Ending, Done, Refused, Refusal, Trace, after_events, last_end, refused, trace_over}
 use Rattle.nf_line.specs.declared.fault.TraceFault.{TraceFault}
 use Rattle.nf_model.specs.Changes.{Content, change}
+use Rattle.nf_model.specs.Work.{work_between}
+use Rattle.nf_session.specs.Costs.{work_from}
 use Rattle.nf_session.specs.Follow.{entered, text_from}
 use Rattle.nf_session.specs.Followers.{Follower}
 use Rattle.nf_session.specs.declared.fault.FollowEnd.{FollowEnd}
@@ -57,7 +59,12 @@ abbrev pub text_of_change : Plan → Option Change → List ℕ
 text_of_change plan (Some made) = change_text plan made
 text_of_change plan None = []
 
--- a line was handled: it was counted, and its event entered; the text of that is that of what was made of it
+-- the work between two contents, where a change was made of the one to the other
+abbrev pub work_made : Option Change → (before now : Content) → ℕ
+work_made (Some made) before now = work_between before now
+work_made None before now = 0
+
+-- a line was handled: it was counted, and its event entered; the text of that is that of what was made of it, and what was made of it isn't more than the work of that
 pub record Handles (line : Line) (place : Place) (content : Content)
     (next : Place) (now : Content) (made : Option Change) : Type 0 where
   pub events : List Event
@@ -66,6 +73,7 @@ pub record Handles (line : Line) (place : Place) (content : Content)
   pub last_is : next.last ≡ last_end place.last events
   pub content_is : now ≡ fold entered content events
   pub text_is : text_from content events ≡ text_of_change content.plan made
+  pub worth : work_made made content now ≤ work_from content events
 
 -- handling a line halts where it is refused, or where memory was wanted
 abbrev pub HaltsAt : ℕ → Option ℤ → Line → Halt → Type 0
@@ -97,6 +105,7 @@ pub record Takes (from : Follower) (piece : List ℕ) (to : Follower) (rest : Li
     (made : Option Change) : Type 0 where
   pub enters : Enters from piece to rest
   pub text_is : text_from from.content enters.events ≡ text_of_change from.content.plan made
+  pub worth : work_made made from.content to.content ≤ work_from from.content enters.events
 
 -- a follower handled a part of a piece, and wrote the text of the events that it read
 pub record HasFed (from : Follower) (piece : List ℕ) (to : Follower) (rest : List ℕ)
@@ -117,6 +126,7 @@ pub record EntersLast (from to : Follower) : Type 0 where
 pub record TakesLast (from to : Follower) (made : Option Change) : Type 0 where
   pub enters : EntersLast from to
   pub text_is : text_from from.content enters.events ≡ text_of_change from.content.plan made
+  pub worth : work_made made from.content to.content ≤ work_from from.content enters.events
 
 -- the change between two contents, where they may differ; else they are the same
 abbrev pub LeavesChange : (before now : Content) → Option Change → Type 0

@@ -8,11 +8,12 @@ use Rattle.nf_session.proofs.session.run_session.Given as goal
 abbrev pub invariant-pieces : goal.invariant-pieces
 invariant-pieces g l =
     let full = (g.I.Inferer.content l.fn.inferer).full in
+    let thrifty = g.I.Inferer.is_thrifty l.fn.inferer in
     let shelf = g.F.Shelf.tells in
     let out = g.O.Sink.tells in record {
       room : vec_len l.buffer ≡ PIECE_LIMIT;
-      goes_on : GoesOn l.fn.announcing l.fn.plan full l.read l.follower
-          (shelf l.fn.shelf) (shelf l.shelf) (out l.fn.out) (out l.out);
+      goes_on : GoesOn l.fn.announcing l.fn.plan full thrifty l.read l.follower
+          (shelf l.fn.shelf) (shelf l.shelf) (out l.fn.out) (out l.out) l.fn.steps l.steps;
     }
 
 -- the bytes that are still allowed

@@ -1,15 +1,17 @@
-use Rattle.std.proofs.Common.{◌≡◌, ◌≢◌, ◌-◌, List, ℕ, [], length, take, drop, sym, ◌∙◌, ap, subst, arith, length-drop}
+use Rattle.std.proofs.Common.{◌≡◌, ◌≢◌, IsTrue, refl, ◌-◌, List, ℕ, [], length, take, drop, sym, ◌∙◌, ap, subst, arith, length-drop}
 use Rattle.std.proofs.lemmas.Grind.{common_steps}
 use Rattle.std.proofs.lemmas.Result.{err_from_is_err_and}
 use Rattle.nf_session.specs.Followers.{Follower}
 use Rattle.nf_session.specs.inner.Progress.{Enters, more_read, standing_of}
 use Rattle.nf_session.proofs.EventLemmas.{stops_ends}
 use Rattle.nf_session.proofs.FeedLemmas.{ends_then, enters_none, enters_then, left_over}
+use Rattle.nf_session.specs.inner.Spending.{work_left}
+use Rattle.nf_session.proofs.SpendingLemmas.{fed_within}
 use Rattle.nf_session.proofs.StandingLemmas.{so_far_done, so_far_ends, stands_on}
 use Rattle.nf_session.proofs.follower.Follow.enter.Goals as goal
 
 pub lines-init : goal.lines-init
-lines-init g c = record { enters = enters_none _ _; counted = omega arith }
+lines-init g c = record { enters = enters_none _ _; counted = omega arith; thrifty = refl; work = λ thrifty. omega arith }
 
 pub returns-in_err-passed-clause-ends : goal.returns-in_err-passed-clause-ends
 returns-in_err-passed-clause-ends g c =
@@ -42,6 +44,9 @@ lines-preserved g c =
       enters = subst (λ (bytes : List ℕ). Enters c.args.self c.args.piece.now next bytes) left
           (subst (λ (f : Follower). Enters c.args.self c.args.piece.now f (drop c.in_ok-passed.passed.used rest)) (sym next_is) entered);
       counted = omega (arith, ap (λ (f : Follower). f.lines) next_is, used_is, c.lines.invariant.counted, c.in_ok-passed.ensures.counted, c.in_ok-passed.ensures.within, ap length (left_over used rest), length-drop used rest, length-drop c.in_ok-passed.passed.used rest);
+      thrifty = ap (λ (f : Follower). f.thrifty) next_is ∙ c.in_ok-passed.ensures.thrifty ∙ c.lines.invariant.thrifty;
+      work = λ thrifty.
+          omega (arith, c.lines.invariant.work thrifty, c.in_ok-passed.ensures.work (subst IsTrue (sym c.lines.invariant.thrifty) thrifty), ap (λ (bytes : List ℕ). work_left next bytes) left, ap (λ (f : Follower). work_left f (drop c.in_ok-passed.passed.used rest)) next_is);
     }
 
 pub returns-clause-stands : goal.returns-clause-stands
@@ -55,3 +60,13 @@ returns-clause-ends g c = λ plan full bytes short s.
     let none : c.lines.rest.now ≡ [] = grind (arith, common_steps) in
     so_far_done plan full bytes c.args.self s c.traces_go_on_from_where_they_stand.ensures.so_far c.args.piece.now c.lines.follow
     (subst (λ (left : List ℕ). Enters c.args.self c.args.piece.now c.lines.follow left) none c.lines.invariant.enters)
+
+pub returns-in_err-passed-clause-work : goal.returns-in_err-passed-clause-work
+returns-in_err-passed-clause-work g c = λ thrifty plan full bytes short s.
+    fed_within plan full bytes c.args.self s c.traces_go_on_from_where_they_stand.ensures.so_far c.args.piece.now c.args.steps.now c.take_event.new.steps
+    (omega (arith, c.lines.invariant.work thrifty, c.in_err-passed.ensures.stopped_work (subst IsTrue (sym c.lines.invariant.thrifty) thrifty)))
+
+pub returns-clause-work : goal.returns-clause-work
+returns-clause-work g c = λ thrifty plan full bytes short s.
+    fed_within plan full bytes c.args.self s c.traces_go_on_from_where_they_stand.ensures.so_far c.args.piece.now c.args.steps.now c.lines.steps
+    (omega (arith, c.lines.invariant.work thrifty))

@@ -3,6 +3,7 @@ use Rattle.std.proofs.lemmas.Result.{err_from_is_err_and}
 use Rattle.nf_session.specs.Followers.{Follower}
 use Rattle.nf_session.proofs.EnteringLemmas.{gone_named, come_named}
 use Rattle.nf_session.proofs.LastLemmas.{few_lines, last_failed, last_taken}
+use Rattle.nf_session.proofs.SpendingLemmas.{finished_within}
 use Rattle.nf_session.proofs.StandingLemmas.{finished, finish_stopped}
 use Rattle.nf_session.proofs.follower.Follow.finish.Goals as goal
 
@@ -37,3 +38,18 @@ returns-clause-finishes g c = λ plan full bytes short s.
     let takes = c.in_ok-follow.ensures.takes (few_lines plan full bytes c.args.self s short) in
     finished plan full bytes c.args.self s c.traces_go_on_from_where_they_stand.ensures.whole short _ _ _ takes.enters
     (last_taken c.follow.inside.plan c.args.self _ _ _ _ takes same c.in_ok-announce.ensures.taken)
+
+pub returns-in_err-follow-clause-work : goal.returns-in_err-follow-clause-work
+returns-in_err-follow-clause-work g c = λ thrifty plan full bytes short s.
+    finished_within plan full bytes c.args.self s c.traces_go_on_from_where_they_stand.ensures.whole short c.args.steps.now c.take_last.new.steps
+    (c.take_last.ensures.work (few_lines plan full bytes c.args.self s short) thrifty)
+
+pub returns-in_err-announce-clause-work : goal.returns-in_err-announce-clause-work
+returns-in_err-announce-clause-work g c = λ thrifty plan full bytes short s.
+    finished_within plan full bytes c.args.self s c.traces_go_on_from_where_they_stand.ensures.whole short c.args.steps.now c.take_last.new.steps
+    (c.take_last.ensures.work (few_lines plan full bytes c.args.self s short) thrifty)
+
+pub returns-clause-work : goal.returns-clause-work
+returns-clause-work g c = λ thrifty plan full bytes short s.
+    finished_within plan full bytes c.args.self s c.traces_go_on_from_where_they_stand.ensures.whole short c.args.steps.now c.take_last.new.steps
+    (c.take_last.ensures.work (few_lines plan full bytes c.args.self s short) thrifty)
