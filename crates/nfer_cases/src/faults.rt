@@ -1,7 +1,7 @@
 //! The calls that a run makes, and what must come where one of them fails.
 //!
-//! A command picks its files in the order of its words, and reads each to its end before the next: the
-//! files of the specification, and then the trace: `-` under `follow`, the file of the last word under
+//! A command but `drill`, which names no file, picks its files in the order of its words, and reads each to its
+//! end before the next: the files of the specification, and then the trace: `-` under `follow`, the file of the last word under
 //! `infer`. A file is read by calls of at most so many bytes, until one gives none. Refused words make
 //! no call, a refused specification is read whole and no trace is, and a refused trace is read up to
 //! the end of the refused line; a file that isn't there is the last one that is picked.
@@ -9,7 +9,7 @@
 //! - Where a call of the shelf fails, the status is 4, the message names the file word, and written is
 //!   what the trace lines announce that ended in the bytes read; under `infer` that is nothing.
 //! - Where a call of the output fails, the status is 5, and written are the bytes of the calls before it.
-//!   The announcements of a line, what `check` prints and what `infer` shows are written by calls of at
+//!   The announcements of a line, what `check` and `drill` print and what `infer` shows are written by calls of at
 //!   most so many bytes.
 //! - Where a call of the message fails, which takes one byte a call here, nothing else changes.
 //!
@@ -38,7 +38,7 @@ pub(crate) fn read_calls<'a>(
     most: usize,
 ) -> Result<Vec<ReadCall<'a>>, AllocError> {
     let mut calls = Vec::new(alloc);
-    if trial.status == 1 {
+    if trial.status == 1 || is_command(trial.words.as_slice(), "drill") {
         return Ok(calls);
     }
     let words = specification_words(alloc, trial.words.as_slice())?;

@@ -94,20 +94,20 @@ answers_ran s names options made place result shelf middle now out out_now same 
         (subst (λ n. EndsFor n (session_status place result) answer.status) count (runs place).ends)
         (subst (λ n. WroteOver (session_status place result) n answer.output bytes now.rest out.taken out_now.taken) behind (runs place).writes)
 
--- the rules of a specification were printed, or writing them failed
-printed_ends : (made : Compiled) (result : Result (Unit {0}) Failure) (reads : ℕ) (out out_now : SinkTells) → Prints made result out out_now → EndsFor reads (concluded result) status.Done
-printed_ends made (Ok done) reads out out_now prints = refl
-printed_ends made (Err failure.Write) reads out out_now prints = tt
-printed_ends made (Err failure.NoMemory) reads out out_now prints = tt
-printed_ends made (Err other) reads out out_now prints = absurd prints
+-- a text was printed, or writing it failed
+pub printed_ends : (text : List ℕ) (result : Result (Unit {0}) Failure) (reads : ℕ) (out out_now : SinkTells) → Prints text result out out_now → EndsFor reads (concluded result) status.Done
+printed_ends text (Ok done) reads out out_now prints = refl
+printed_ends text (Err failure.Write) reads out out_now prints = tt
+printed_ends text (Err failure.NoMemory) reads out out_now prints = tt
+printed_ends text (Err other) reads out out_now prints = absurd prints
 
-printed_writes : (made : Compiled) (result : Result (Unit {0}) Failure) (out out_now : SinkTells) → Prints made result out out_now → WroteAtEnd (concluded result) (checked made).output.text out.taken out_now.taken
-printed_writes made (Ok done) out out_now prints = prints
-printed_writes made (Err failure.Write) out out_now prints = prints.0
-printed_writes made (Err failure.NoMemory) out out_now prints = prints
-printed_writes made (Err other) out out_now prints = absurd prints
+pub printed_writes : (text : List ℕ) (result : Result (Unit {0}) Failure) (out out_now : SinkTells) → Prints text result out out_now → WroteAtEnd (concluded result) text out.taken out_now.taken
+printed_writes text (Ok done) out out_now prints = prints
+printed_writes text (Err failure.Write) out out_now prints = prints.0
+printed_writes text (Err failure.NoMemory) out out_now prints = prints
+printed_writes text (Err other) out out_now prints = absurd prints
 
-pub answers_checked : (names : List (List ℕ)) (options : Options) (made : Compiled) (result : Result (Unit {0}) Failure) (shelf now : ShelfTells) (out out_now : SinkTells) → Accepts shelf names options.root made → Prints made result out out_now
+pub answers_checked : (names : List (List ℕ)) (options : Options) (made : Compiled) (result : Result (Unit {0}) Failure) (shelf now : ShelfTells) (out out_now : SinkTells) → Accepts shelf names options.root made → Prints (checked made).output.text result out out_now
     → IfSome shelf.files (λ files. Answers (Some (Check options names)) files (concluded result) now.rest out.taken out_now.taken)
 answers_checked names options made result shelf now out out_now accepts prints = IfSome_then shelf.files accepts (λ files accepted.
     let reads = 0 + length (sources_of files names) in
@@ -115,6 +115,6 @@ answers_checked names options made result shelf now out out_now accepts prints =
       reads = reads;
       answer = checked made;
       defined = answers.accepted accepted.fits accepted.defined;
-      ends = printed_ends made result reads out out_now prints;
-      writes = printed_writes made result out out_now prints;
+      ends = printed_ends (checked made).output.text result reads out out_now prints;
+      writes = printed_writes (checked made).output.text result out out_now prints;
     })

@@ -1,14 +1,15 @@
 -- What words ask for, against the command that the code reads from them.
 use Rattle.std.proofs.Common.{◌≡◌, ℕ, ◌<◌, refl, sym, ◌∙◌, ap, subst, arith, Bool, true, false, ◌&&◌, ◌==◌, List, [], ◌∷◌, ◌++◌, length, take, ◌-◌, Option, Some, None, ◌⊎◌, inl, inr}
-use Rattle.std.specs.Prelude.{bytes_eq, codes, nat_lt, ◌^◌, ◌↔◌, option_map, if◌then◌else◌}
+use Rattle.std.specs.Prelude.{bytes_eq, codes, decimal, nat_lt, ◌^◌, ◌↔◌, option_map, if◌then◌else◌}
 use Rattle.std.specs.List.{list_all, slice_get}
 use Rattle.std.proofs.lemmas.Bool.{ltb-true}
 use Rattle.std.proofs.lemmas.List.{append-nil}
 use Rattle.std.proofs.lemmas.Slice.Eq.{bytes_eq-Decides}
 use Rattle.nf_lemmas.proofs.BoolLemmas.{both}
-use Rattle.nfer_cli.specs.Words.{Options, no_options, is_among, check_options, follow_options, is_file_word, are_file_words, is_trace_word, Gives, Asked, Check, Follow, Infer, Asks, check, follow, infer, AsksNothing, AsksFor}
+use Rattle.nfer_cli.specs.Words.{Options, no_options, is_among, check_options, follow_options, is_file_word, are_file_words, is_trace_word, Gives, Asked, Check, Drill, Follow, Infer, Asks, check, drill, follow, infer, AsksNothing, AsksFor}
 use Rattle.nfer_cli.specs.inner.Options.{taken}
-use Rattle.nfer_cli.specs.inner.Commands.{check_of, follow_of, infer_of, infer_with, asked, NamesFiles}
+use Rattle.nfer_cli.specs.inner.Commands.{check_of, count_of, drill_of, follow_of, infer_of, infer_with, asked, NamesFiles}
+use Rattle.nfer_cli.proofs.CountLemmas.{IsCount, count_back, count_read}
 use Rattle.nfer_cli.proofs.InferWordLemmas.{infer_last, infer_taken, last_behind}
 use Rattle.nfer_cli.proofs.TakenOptionLemmas.{none_taken, Taken, taken_given, taken_back, joined_first}
 
@@ -56,6 +57,8 @@ is_asked words question (infer {given} {files} {trace} {options} gives are names
     let behind = files ++ trace ∷ [] in
     let back = read_back follow_options given behind options (none_before follow_options no_follow_option files (trace ∷ []) are) gives in
     ap infer_of back ∙ infer_last options behind files trace refl ∙ infer_taken options files trace (rw (are, names) refl)
+is_asked words question (drill {lines} some few) =
+    ap (option_map Drill) (count_read (decimal lines) lines (record { some = some; few = few; spelled = refl }))
 
 -- words that options are taken from are these options and the words behind them
 record GivenBack (names words : List (List ℕ)) (options : Options) (behind : List (List ℕ)) : Type 0 where
@@ -116,31 +119,47 @@ infer_back words question (Some (options, behind)) from is = with (slice_get beh
     with None at is = absurd cc
     with (Some trace) at is = by trace (are_file_words files) (is_trace_word trace) (last_behind behind trace at) refl refl is
 
+drill_back : (words : List (List ℕ)) (question : Asked) → drill_of words ≡ Some question → Asks (codes "drill" ∷ words) question
+drill_back [] question is = absurd cc
+drill_back (word ∷ next ∷ words) question is = absurd cc
+drill_back (word ∷ []) question is = by (count_of word) refl is
+  where
+    by : (count : Option ℕ) → count_of word ≡ count → option_map Drill count ≡ Some question → Asks (codes "drill" ∷ word ∷ []) question
+    by None from is = absurd cc
+    by (Some lines) from is =
+        let count = count_back word lines from in
+        let asks : Asks (codes "drill" ∷ decimal lines ∷ []) (Drill lines) = drill count.some count.few in
+        let same : Drill lines ≡ question = cc in
+        subst (λ (q : Asked). Asks (codes "drill" ∷ word ∷ []) q) same (subst (λ (w : List ℕ). Asks (codes "drill" ∷ w ∷ []) (Drill lines)) (sym count.spelled) asks)
+
 pub asks_back : (words : List (List ℕ)) (question : Asked) → asked words ≡ Some question → Asks words question
 unfolding asked
 asks_back [] question is = absurd cc
-asks_back (name ∷ words) question is = by (bytes_eq name (codes "check")) (bytes_eq name (codes "follow")) (bytes_eq name (codes "infer")) refl refl refl is
+asks_back (name ∷ words) question is = by (bytes_eq name (codes "check")) (bytes_eq name (codes "follow")) (bytes_eq name (codes "infer")) (bytes_eq name (codes "drill")) refl refl refl refl is
   where
     named : (command : List ℕ) → bytes_eq name command ≡ true → Asks (command ∷ words) question → Asks (name ∷ words) question
     named command is asks = subst (λ (n : List ℕ). Asks (n ∷ words) question) (sym ((bytes_eq-Decides name command).0 is)) asks
 
-    by : (a b d : Bool) → bytes_eq name (codes "check") ≡ a → bytes_eq name (codes "follow") ≡ b → bytes_eq name (codes "infer") ≡ d
+    by : (a b d e : Bool) → bytes_eq name (codes "check") ≡ a → bytes_eq name (codes "follow") ≡ b → bytes_eq name (codes "infer") ≡ d → bytes_eq name (codes "drill") ≡ e
         → (if a then check_of (taken check_options no_options words)
         else (if b then follow_of (taken follow_options no_options words)
-        else (if d then infer_of (taken follow_options no_options words) else None))) ≡ Some question → Asks (name ∷ words) question
-    by true b d is_check others more is = named (codes "check") is_check (check_back words question (taken check_options no_options words) refl is)
-    by false true d other is_follow more is = named (codes "follow") is_follow (follow_back words question (taken follow_options no_options words) refl is)
-    by false false true other more is_infer is = named (codes "infer") is_infer (infer_back words question (taken follow_options no_options words) refl is)
-    by false false false other more last is = absurd cc
+        else (if d then infer_of (taken follow_options no_options words)
+        else (if e then drill_of words else None)))) ≡ Some question → Asks (name ∷ words) question
+    by true b d e is_check others more last is = named (codes "check") is_check (check_back words question (taken check_options no_options words) refl is)
+    by false true d e other is_follow more last is = named (codes "follow") is_follow (follow_back words question (taken follow_options no_options words) refl is)
+    by false false true e other more is_infer last is = named (codes "infer") is_infer (infer_back words question (taken follow_options no_options words) refl is)
+    by false false false true other more others is_drill is = named (codes "drill") is_drill (drill_back words question is)
+    by false false false false other more others last is = absurd cc
 
 -- words are read as nothing whose first one is no command
-pub asked_nothing : (words rest : List (List ℕ)) (name : List ℕ) → words ≡ name ∷ rest → (name ≡ codes "check" → ⊥) → (name ≡ codes "follow" → ⊥) → (name ≡ codes "infer" → ⊥) → None ≡ asked words
+pub asked_nothing : (words rest : List (List ℕ)) (name : List ℕ) → words ≡ name ∷ rest → (name ≡ codes "check" → ⊥) → (name ≡ codes "follow" → ⊥) → (name ≡ codes "infer" → ⊥) → (name ≡ codes "drill" → ⊥) → None ≡ asked words
 unfolding asked
-asked_nothing words rest name is no_check no_follow no_infer =
+asked_nothing words rest name is no_check no_follow no_infer no_drill =
     let not_check = other (codes "check") no_check in
     let not_follow = other (codes "follow") no_follow in
     let not_infer = other (codes "infer") no_infer in
-    subst (λ (ws : List (List ℕ)). None ≡ asked ws) (sym is) (rw (not_check, not_follow, not_infer) refl)
+    let not_drill = other (codes "drill") no_drill in
+    subst (λ (ws : List (List ℕ)). None ≡ asked ws) (sym is) (rw (not_check, not_follow, not_infer, not_drill) refl)
   where
     other : (command : List ℕ) → (name ≡ command → ⊥) → bytes_eq name command ≡ false
     other command differs = by (bytes_eq name command) refl
@@ -198,3 +217,4 @@ names_files words (Some question) asks = by words question asks
     by words question (check {files} gives are) = are_counted files are
     by words question (follow {files} gives are) = are_counted files are
     by words question (infer {files} gives are names) = are_counted files are
+    by words question (drill some few) = tt

@@ -1,5 +1,5 @@
 -- All that a call promises, from what its parts promise.
-use Rattle.std.proofs.Common.{◌≡◌, ℕ, ◌<◌, ◌≤◌, Bool, false, List, [], ◌∷◌, ◌++◌, length, take, Option, Some, None, IfSome, Result, Ok, Err, refl, sym, ◌∙◌, ap, subst, inl, arith}
+use Rattle.std.proofs.Common.{◌≡◌, ℕ, ◌<◌, ◌≤◌, Bool, false, List, [], ◌∷◌, ◌++◌, length, take, length-append, Option, Some, None, IfSome, Result, Ok, Err, refl, sym, ◌∙◌, ap, subst, inl, arith}
 use Rattle.std.specs.Prelude.{IsErrAnd, MatchResult}
 use Rattle.std.proofs.lemmas.Option.{IfSome_then}
 use Rattle.nf_core.specs.Plan.{Plan, IsPlan}
@@ -14,10 +14,10 @@ use Rattle.nf_session.specs.declared.fault.SessionEnd.{SessionEnd}
 use Rattle.nf_session.specs.declared.fault.SessionEnd.TheVariants as end
 use Rattle.nf_spec.specs.Specification.{Specifies}
 use Rattle.nf_spec.specs.declared.compiling.Compiled.{Compiled}
-use Rattle.nfer_cli.specs.Answers.{Answers, AreReplayed, AsksWithin, CannotReadAt, CheckReadsTo, Defines, FollowReadsTo, IfReadFault, IsCompleteFor, ReadsTo, Replays, WroteLast, is_read_fault, refusal}
+use Rattle.nfer_cli.specs.Answers.{Answers, AreReplayed, AsksWithin, CannotReadAt, CheckReadsTo, Defines, FollowReadsTo, IfReadFault, IsCompleteFor, ReadsTo, Replays, WroteLast, checked, is_read_fault, refusal}
 use Rattle.nfer_cli.specs.Calls.{CarriesOut}
 use Rattle.nfer_cli.specs.Sources.{sources_of}
-use Rattle.nfer_cli.specs.Words.{Asked, Check, Follow, Infer, file_words, specification_words, standard_input, Options}
+use Rattle.nfer_cli.specs.Words.{Asked, Check, Follow, Infer, file_words, specification_words, standard_input, trace_of, with_trace, Options}
 use Rattle.nfer_cli.specs.inner.Ended.{Prints}
 use Rattle.nfer_cli.specs.inner.Failures.{concluded, ends_unread, failed_status, failure_at, session_status}
 use Rattle.nfer_cli.specs.inner.Running.{Runs, session_asks, trace_by}
@@ -50,7 +50,7 @@ no_read_fault (status.ReadFault place) names before now calm fault = calm fault.
 no_read_fault other names before now calm fault = tt
 
 -- with no fault of the shelf or of the output a call completes
-completes : (question : Option Asked) (s : Status) (names : List (List ℕ)) (shelf now : ShelfTells) (out out_now : SinkTells) → IfSome shelf.files (λ files. Answers question files s now.rest out.taken out_now.taken)
+pub completes : (question : Option Asked) (s : Status) (names : List (List ℕ)) (shelf now : ShelfTells) (out out_now : SinkTells) → IfSome shelf.files (λ files. Answers question files s now.rest out.taken out_now.taken)
     → IfReadFault s (λ place. CannotReadAt names place shelf now) → (s ≡ status.WriteFault → Rose out.faults out_now.faults) → ¬ Rose shelf.faults now.faults → ¬ Rose out.faults out_now.faults
     → IfSome shelf.files (λ files. IsCompleteFor (Defines question files) s)
 completes question s names shelf now out out_now answers read write calm out_calm = by shelf.files answers
@@ -59,8 +59,13 @@ completes question s names shelf now out out_now answers read write calm out_cal
     by None a = tt
     by (Some files) a = complete_by question files s now.rest out.taken out_now.taken (no_read_fault s names shelf now calm read) (λ is. out_calm (write is)) a
 
+-- the words of files with those of a specification among them
+has_files : (names : List (List ℕ)) (trace : Option (List ℕ)) → 0 < length names → with_trace names trace ≡ [] → ⊥
+has_files names None some is = let none : length names ≡ 0 = ap length is in absurd (omega (arith, some, none))
+has_files names (Some trace) some is = let none : length (names ++ trace ∷ []) ≡ 0 = ap length is in absurd (omega (arith, some, none, length-append names (trace ∷ [])))
+
 -- what is asked was carried out
-carried : (question : Asked) (s : Status) (shelf now : ShelfTells) (out out_now : SinkTells) → (s ≡ status.Usage → ⊥)
+carried : (question : Asked) (s : Status) (shelf now : ShelfTells) (out out_now : SinkTells) → 0 < length (specification_words (Some question)) → (s ≡ status.Usage → ⊥)
     → IfSome shelf.files (λ files. Answers (Some question) files s now.rest out.taken out_now.taken)
     → IfSome shelf.files (λ files. ReadsTo (Some question) s files shelf.asked shelf.rest now.asked now.rest)
     → AsksOne (file_words (Some question)) shelf now → IfReadFault s (λ place. CannotReadAt (file_words (Some question)) place shelf now)
@@ -68,19 +73,19 @@ carried : (question : Asked) (s : Status) (shelf now : ShelfTells) (out out_now 
     → IfSome shelf.files (λ files. WroteLast (Some question) files s now.rest) → IfSome shelf.files (λ files. Replays (Some question) files s)
     → IfReadFault s (λ place. place < length (specification_words (Some question)) → out_now.taken ≡ out.taken)
     → CarriesOut (Some question) s shelf now out out_now
-carried question s shelf now out out_now never answer reads asks read failed write last replayed unread = record {
+carried question s shelf now out out_now some never answer reads asks read failed write last replayed unread = record {
   usage = (λ is. absurd (never is), λ none. cc);
   answer = answer;
   reads = reads;
   asks = asks;
   read_fault = read;
-  failed = failed;
+  failed = λ files. failed;
   write_fault = write;
   written_last = last;
   replayed = replayed;
   unread = unread;
   completes = completes (Some question) s (file_words (Some question)) shelf now out out_now answer read write;
-  untouched = λ is. absurd (never is);
+  untouched = λ none. absurd (has_files (specification_words (Some question)) (trace_of question) some none);
 }
 
 -- words that ask for nothing
@@ -91,13 +96,13 @@ carried_usage question shelf out none = subst (λ (q : Option Asked). CarriesOut
   reads = reads shelf.files;
   asks = asks shelf.files;
   read_fault = tt;
-  failed = tt;
+  failed = λ some. absurd (omega arith);
   write_fault = λ is. absurd cc;
   written_last = always shelf.files _ (λ files. tt);
   replayed = always shelf.files _ (λ files. tt);
   unread = tt;
   completes = λ calm out_calm. completes None status.Usage [] shelf shelf out out (answer shelf.files) tt (λ is. absurd cc) calm out_calm;
-  untouched = λ is. refl;
+  untouched = λ none. refl;
 })
   where
     answer : (told : Option Files) → IfSome told (λ files. Answers None files status.Usage shelf.rest out.taken out.taken)
@@ -113,7 +118,7 @@ carried_usage question shelf out none = subst (λ (q : Option Asked). CarriesOut
     asks (Some files) = inl refl
 
 -- a failure is not usage
-never_usage : (why : Failure) → failed_status why ≡ status.Usage → ⊥
+pub never_usage : (why : Failure) → failed_status why ≡ status.Usage → ⊥
 never_usage (failure.Specification w) is = cc
 never_usage (failure.Trace w) is = cc
 never_usage (failure.Read place) is = cc
@@ -154,10 +159,10 @@ check_fault names root (failure.Read place) shelf now fails = fails.cannot
 check_fault names root failure.NoMemory shelf now fails = tt
 check_fault names root other shelf now fails = absurd fails
 
-pub check_unspecified : AreSpecified → (names : List (List ℕ)) (options : Options) (why : Failure) (shelf now : ShelfTells) (out : SinkTells) → SpecificationFails names options.root why shelf now → now.failed ≡ ends_unread {A = Compiled} (Err why) → AsksOne names shelf now
+pub check_unspecified : AreSpecified → (names : List (List ℕ)) (options : Options) (why : Failure) (shelf now : ShelfTells) (out : SinkTells) → 0 < length names → SpecificationFails names options.root why shelf now → now.failed ≡ ends_unread {A = Compiled} (Err why) → AsksOne names shelf now
     → CarriesOut (Some (Check options names)) (failed_status why) shelf now out out
-check_unspecified specified names options why shelf now out fails failed asks =
-    carried (Check options names) (failed_status why) shelf now out out (never_usage why) (answers_unchecked specified shelf.files names options why now.rest out.taken (not_accepted names options.root why shelf now fails))
+check_unspecified specified names options why shelf now out some fails failed asks =
+    carried (Check options names) (failed_status why) shelf now out out some (never_usage why) (answers_unchecked specified shelf.files names options why now.rest out.taken (not_accepted names options.root why shelf now fails))
     (check_stands names options.root why shelf now fails) asks (check_fault names options.root why shelf now fails) (failed ∙ sym (failed_read why)) (no_write names options.root why shelf now out out fails)
     (always shelf.files _ (λ files. tt)) (always shelf.files _ (λ files. tt)) (nothing_written why (length names) out)
 
@@ -174,7 +179,7 @@ follow_fault names trace root failure.NoMemory shelf now fails = tt
 follow_fault names trace root other shelf now fails = absurd fails
 
 -- a session that a command names was carried out
-carried_over : (q : Session) (names : List (List ℕ)) (options : Options) (s : Status) (shelf now : ShelfTells) (out out_now : SinkTells) → (s ≡ status.Usage → ⊥)
+carried_over : (q : Session) (names : List (List ℕ)) (options : Options) (s : Status) (shelf now : ShelfTells) (out out_now : SinkTells) → 0 < length names → (s ≡ status.Usage → ⊥)
     → IfSome shelf.files (λ files. Answers (Some (session_asks q options names)) files s now.rest out.taken out_now.taken)
     → IfSome shelf.files (λ files. FollowReadsTo names (trace_by q) s files now.asked now.rest)
     → AsksOne (names ++ trace_by q ∷ []) shelf now → IfReadFault s (λ place. CannotReadAt (names ++ trace_by q ∷ []) place shelf now)
@@ -202,23 +207,23 @@ unrun_replayed session.Follow names options (failure.Read place) shelf now fails
 unrun_replayed session.Follow names options failure.NoMemory shelf now fails = always shelf.files _ (λ files. tt)
 unrun_replayed session.Follow names options other shelf now fails = absurd fails
 
-pub session_unspecified : AreSpecified → (q : Session) (names : List (List ℕ)) (options : Options) (why : Failure) (shelf now : ShelfTells) (out : SinkTells) → SpecificationFails names options.root why shelf now
+pub session_unspecified : AreSpecified → (q : Session) (names : List (List ℕ)) (options : Options) (why : Failure) (shelf now : ShelfTells) (out : SinkTells) → 0 < length names → SpecificationFails names options.root why shelf now
     → now.failed ≡ ends_unread {A = Compiled} (Err why) → AsksOne names shelf now → CarriesOut (Some (session_asks q options names)) (failed_status why) shelf now out out
-session_unspecified specified q names options why shelf now out fails failed asks =
-    carried_over q names options (failed_status why) shelf now out out (never_usage why) (answers_unrun specified q shelf.files names options why now.rest out.taken (not_accepted names options.root why shelf now fails))
+session_unspecified specified q names options why shelf now out some fails failed asks =
+    carried_over q names options (failed_status why) shelf now out out some (never_usage why) (answers_unrun specified q shelf.files names options why now.rest out.taken (not_accepted names options.root why shelf now fails))
     (follow_stands names (trace_by q) options.root why shelf now fails) (asks_before_trace names (trace_by q) shelf now asks) (follow_fault names (trace_by q) options.root why shelf now fails)
     (failed ∙ sym (failed_read why)) (no_write names options.root why shelf now out out fails) (unrun_last q names options why shelf now fails) (unrun_replayed q names options why shelf now fails) (nothing_written why (length names) out)
 
 -- the rules of a specification were printed, or writing them failed
-pub check_printed : (names : List (List ℕ)) (options : Options) (made : Compiled) (result : Result (Unit {0}) Failure) (shelf now : ShelfTells) (out out_now : SinkTells) → Accepts shelf names options.root made → EndsBehind names shelf now → now.failed ≡ false → AsksOne names shelf now
-    → Prints made result out out_now → CarriesOut (Some (Check options names)) (concluded result) shelf now out out_now
-check_printed names options made (Ok done) shelf now out out_now accepts ends failed asks prints =
-    carried (Check options names) status.Done shelf now out out_now (λ is. cc) (answers_checked names options made (Ok done) shelf now out out_now accepts prints) ends asks tt failed (λ is. absurd cc) (always shelf.files _ (λ files. tt)) (always shelf.files _ (λ files. tt)) tt
-check_printed names options made (Err failure.Write) shelf now out out_now accepts ends failed asks prints =
-    carried (Check options names) status.WriteFault shelf now out out_now (λ is. cc) (answers_checked names options made (Err failure.Write) shelf now out out_now accepts prints) ends asks tt failed (λ is. prints.1) (always shelf.files _ (λ files. tt)) (always shelf.files _ (λ files. tt)) tt
-check_printed names options made (Err failure.NoMemory) shelf now out out_now accepts ends failed asks prints =
-    carried (Check options names) status.NoMemory shelf now out out_now (λ is. cc) (answers_checked names options made (Err failure.NoMemory) shelf now out out_now accepts prints) (always shelf.files _ (λ files. tt)) asks tt failed (λ is. absurd cc) (always shelf.files _ (λ files. tt)) (always shelf.files _ (λ files. tt)) tt
-check_printed names options made (Err other) shelf now out out_now accepts ends failed asks prints = absurd prints
+pub check_printed : (names : List (List ℕ)) (options : Options) (made : Compiled) (result : Result (Unit {0}) Failure) (shelf now : ShelfTells) (out out_now : SinkTells) → 0 < length names → Accepts shelf names options.root made → EndsBehind names shelf now → now.failed ≡ false → AsksOne names shelf now
+    → Prints (checked made).output.text result out out_now → CarriesOut (Some (Check options names)) (concluded result) shelf now out out_now
+check_printed names options made (Ok done) shelf now out out_now some accepts ends failed asks prints =
+    carried (Check options names) status.Done shelf now out out_now some (λ is. cc) (answers_checked names options made (Ok done) shelf now out out_now accepts prints) ends asks tt failed (λ is. absurd cc) (always shelf.files _ (λ files. tt)) (always shelf.files _ (λ files. tt)) tt
+check_printed names options made (Err failure.Write) shelf now out out_now some accepts ends failed asks prints =
+    carried (Check options names) status.WriteFault shelf now out out_now some (λ is. cc) (answers_checked names options made (Err failure.Write) shelf now out out_now accepts prints) ends asks tt failed (λ is. prints.1) (always shelf.files _ (λ files. tt)) (always shelf.files _ (λ files. tt)) tt
+check_printed names options made (Err failure.NoMemory) shelf now out out_now some accepts ends failed asks prints =
+    carried (Check options names) status.NoMemory shelf now out out_now some (λ is. cc) (answers_checked names options made (Err failure.NoMemory) shelf now out out_now accepts prints) (always shelf.files _ (λ files. tt)) asks tt failed (λ is. absurd cc) (always shelf.files _ (λ files. tt)) (always shelf.files _ (λ files. tt)) tt
+check_printed names options made (Err other) shelf now out out_now some accepts ends failed asks prints = absurd prints
 
 -- the ends of a session are no usage, and its faults have their causes
 session_never_usage : (place : ℕ) (result : Result (Unit {0}) SessionEnd) → session_status place result ≡ status.Usage → ⊥
@@ -276,10 +281,10 @@ ran_replayed one shown session.Follow names options made place (Err other) shelf
 
 -- a session ran over a trace, which is the file behind those of a specification
 pub session_ran : AreOne → AreShown → (q : Session) (names : List (List ℕ)) (options : Options) (made : Compiled) (place : ℕ) (result : Result (Unit {0}) SessionEnd) (shelf middle now : ShelfTells) (out out_now : SinkTells)
-    → IsPlan made.plan → middle.files ≡ shelf.files → place ≡ length names → shelf.faults ≤ middle.faults → middle.failed ≡ false → Accepts shelf names options.root made → AsksOne names shelf middle
+    → 0 < length names → IsPlan made.plan → middle.files ≡ shelf.files → place ≡ length names → shelf.faults ≤ middle.faults → middle.failed ≡ false → Accepts shelf names options.root made → AsksOne names shelf middle
     → Runs q made.plan options.full result middle now out out_now → CarriesOut (Some (session_asks q options names)) (session_status place result) shelf now out out_now
-session_ran one shown q names options made place result shelf middle now out out_now valid same count later calm accepts asks runs =
-    carried_over q names options (session_status place result) shelf now out out_now (session_never_usage place result)
+session_ran one shown q names options made place result shelf middle now out out_now some valid same count later calm accepts asks runs =
+    carried_over q names options (session_status place result) shelf now out out_now some (session_never_usage place result)
     (answers_ran q names options made place result shelf middle now out out_now same count accepts runs.over)
     (told_before shelf.files middle.files _ same (reads_ran q names made.plan options.full place result middle now out out_now count runs))
     (asks_with_trace q names result shelf middle now same asks runs.asks)

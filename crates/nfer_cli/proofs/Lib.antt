@@ -4,6 +4,7 @@ pub mod ListingLemmas
 pub mod FileLemmas
 pub mod TakenOptionLemmas
 pub mod InferWordLemmas
+pub mod CountLemmas
 pub mod AskedLemmas
 pub mod ReportLemmas
 pub mod AllowedLemmas
@@ -18,3 +19,5 @@ pub mod AnswerLemmas
 pub mod RunningLemmas
 pub mod RefusalLemmas
 pub mod CallLemmas
+pub mod DrillingLemmas
+pub mod EvaluatingLemmas

@@ -1,6 +1,7 @@
 -- The defined answer to the words and the files, and how the end of a call stands to it.
-use Rattle.std.specs.Prelude.{◌≡◌, ◌⊎◌, ℕ, suc, ◌+◌, ◌-◌, ◌≤◌, ◌<◌, Bool, true, false, List, [], drop, take, length, Ok, Err, Option, Some, None, IfSome, ⊤, slice_index_or}
+use Rattle.std.specs.Prelude.{◌≡◌, ◌⊎◌, ℕ, suc, ◌+◌, ◌-◌, ◌≤◌, ◌<◌, Bool, true, false, List, [], ◌++◌, codes, decimal, drop, take, length, Ok, Err, Option, Some, None, IfSome, ⊤, slice_index_or}
 use Rattle.nf_core.specs.Plan.{Plan}
+use Rattle.nf_drill.specs.Rules.{IsDrillPlan}
 use Rattle.nf_io.specs.Files.{Files, bytes_of, asked_of}
 use Rattle.nf_io.specs.Causes.{Rose}
 use Rattle.nf_io.specs.Tells.{ShelfTells}
@@ -8,15 +9,17 @@ use Rattle.nf_io.specs.Bytes.{Took, TookPart}
 use Rattle.nf_line.specs.Readings.{trace_fault_of}
 use Rattle.nf_line.specs.Trace.{Ending, Done, trace}
 use Rattle.nf_line.specs.declared.fault.TraceFault.{TraceFault}
+use Rattle.nf_session.specs.Drill.{IsSummary}
 use Rattle.nf_session.specs.Replay.{IsReplayed}
 use Rattle.nf_session.specs.Sessions.{Output, LeftOfTrace, WrotePart, WroteShort, at_end, followed, inferred, piece_limit}
+use Rattle.nf_session.specs.declared.drilling.Summary.{Summary}
 use Rattle.nf_session.specs.declared.fault.SessionEnd.TheVariants as session
 use Rattle.nf_spec.specs.Sources.{IsPassedAt, specification_limit, total}
 use Rattle.nf_spec.specs.Specification.{Specifies}
 use Rattle.nf_spec.specs.declared.compiling.Compiled.{Compiled}
 use Rattle.nf_spec.specs.declared.fault.SpecFault.{SpecFault}
 use Rattle.nf_spec.specs.declared.fault.SpecFault.TheVariants as fault
-use Rattle.nfer_cli.specs.Words.{Asked, Check, Follow, Infer, Options, specification_words, standard_input, trace_of}
+use Rattle.nfer_cli.specs.Words.{Asked, Check, Drill, Follow, Infer, Options, specification_words, standard_input, trace_of}
 use Rattle.nfer_cli.specs.Sources.{sources_of}
 use Rattle.nfer_cli.specs.Listing.{listing}
 use Rattle.nfer_cli.specs.declared.status.Status.{Status}
@@ -71,6 +74,24 @@ pub data Over (sources : List (List ℕ)) (root : Option (List ℕ)) (more : ℕ
       → Specifies sources root (Ok made)
       → Over sources root more answer_of (more + length sources) (answer_of made)
 
+-- a line of a count: what is counted, and its number
+abbrev pub count_line : List ℕ → ℕ → List ℕ
+count_line what count = what ++ codes " " ++ decimal count ++ codes "\n"
+
+-- what `drill` prints of what is counted: the lines, the announcements, the withdrawals, and what heads hold at the end
+abbrev pub summary_text : Summary → List ℕ
+summary_text summary =
+    count_line (codes "lines") summary.lines ++ count_line (codes "additions") summary.additions
+    ++ count_line (codes "withdrawals") summary.withdrawals ++ count_line (codes "held") summary.held
+
+-- the answer of `drill` for so many made lines: the text of what is counted over them under its own plan, by minimality
+pub record Drills (lines : ℕ) (answer : Answer) : Type 0 where
+  pub plan : Plan
+  pub planned : IsDrillPlan plan
+  pub summary : Summary
+  pub counts : IsSummary plan false lines summary
+  pub answer_is : answer ≡ record { output = at_end (summary_text summary); status = status.Done }
+
 -- the defined answer to what is asked, over the files, and how many of the command's files are read before it is
 -- known
 abbrev pub Defines : Option Asked → Files → ℕ → Answer → Type 0
@@ -83,6 +104,7 @@ Defines (Some (Follow options names)) files reads answer =
 Defines (Some (Infer options names trace)) files reads answer =
     let bytes = bytes_of files trace in
     Over (sources_of files names) options.root 1 (over_trace inferred options bytes) reads answer
+Defines (Some (Drill lines)) files reads answer = (reads ≡ 0) × Drills lines answer
 
 -- a call ends with the defined status, or with a fault that comes before it, or with want of memory: a read fault
 -- comes only at a file that is read before the status is known
@@ -123,6 +145,8 @@ Wrote (Some (Follow options names)) files result output rest before now =
     WroteOver result (length names) output (bytes_of files standard_input) rest before now
 Wrote (Some (Infer options names trace)) files result output rest before now =
     WroteOver result (length names) output (bytes_of files trace) rest before now
+Wrote (Some (Drill lines)) files result output rest before now =
+    WroteAtEnd result output.text before now
 
 -- a call answered what is asked for over the files: with a status for a defined answer, and with what was taken
 -- of its text
@@ -258,10 +282,13 @@ CommandReadsTo names None result files last rest = CheckReadsTo names result fil
 CommandReadsTo names (Some trace) result files last rest =
     FollowReadsTo names trace result files last rest
 
--- where reading stood at the end of a call, by what is asked: words that ask for nothing leave the shelf as it was
+-- where reading stood at the end of a call, by what is asked: words that ask for nothing, and `drill`, leave the shelf
+-- as it was
 abbrev pub ReadsTo : Option Asked → Status → Files
     → (asked_before rest_before last rest : Option (List ℕ)) → Type 0
 ReadsTo None result files asked_before rest_before last rest =
+    (last ≡ asked_before) × (rest ≡ rest_before)
+ReadsTo (Some (Drill lines)) result files asked_before rest_before last rest =
     (last ≡ asked_before) × (rest ≡ rest_before)
 ReadsTo (Some question) result files asked_before rest_before last rest =
     CommandReadsTo (specification_words (Some question)) (trace_of question) result files last rest

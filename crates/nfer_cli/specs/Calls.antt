@@ -1,5 +1,5 @@
 -- All that a call promises that answers words over a shelf and an output.
-use Rattle.std.specs.Prelude.{◌≡◌, ◌↔◌, ◌<◌, length, Option, None, IfSome}
+use Rattle.std.specs.Prelude.{◌≡◌, ◌↔◌, ◌<◌, [], length, Option, None, IfSome}
 use Rattle.nf_io.specs.Causes.{Rose}
 use Rattle.nf_io.specs.Tells.{ShelfTells, SinkTells}
 use Rattle.nfer_cli.specs.Answers.{Answers, AsksWithin, CannotReadAt, Defines, IfReadFault, IsCompleteFor, ReadsTo, Replays, WroteLast, is_read_fault}
@@ -28,8 +28,8 @@ pub record CarriesOut (question : Option Asked) (result : Status)
   -- a read fault names a file of the command that couldn't be read in this call
   pub read_fault : IfReadFault result (λ place.
       CannotReadAt (file_words question) place shelf shelf_now)
-  -- the last call of the shelf failed exactly where a read fault is answered
-  pub failed : IfSome question (λ asked. shelf_now.failed ≡ is_read_fault result)
+  -- where files are read, the last call of the shelf failed exactly where a read fault is answered
+  pub failed : 0 < length (file_words question) → shelf_now.failed ≡ is_read_fault result
   -- a write fault comes only where the output failed in this call
   pub write_fault : result ≡ status.WriteFault → Rose out.faults out_now.faults
   -- what `infer` wrote it wrote once its trace was accepted and read to its end
@@ -43,5 +43,5 @@ pub record CarriesOut (question : Option Asked) (result : Status)
   -- with no fault of the shelf or of the output the answer is a defined one, or want of memory
   pub completes : ¬ Rose shelf.faults shelf_now.faults → ¬ Rose out.faults out_now.faults
       → IfSome shelf.files (λ files. IsCompleteFor (Defines question files) result)
-  -- words that ask for nothing leave the shelf's faults as they were
-  pub untouched : result ≡ status.Usage → shelf_now.faults ≡ shelf.faults
+  -- words that name no file leave the shelf as it was: those that ask for nothing, and `drill`
+  pub untouched : file_words question ≡ [] → shelf_now ≡ shelf

@@ -5,4 +5,5 @@ pub mod Statuses
 pub mod Messages
 pub mod Answers
 pub mod Calls
+pub mod Evaluating
 pub mod inner

@@ -1,7 +1,8 @@
 -- The words of the command line, and what they ask for.
-use Rattle.std.specs.Prelude.{◌≡◌, ℕ, ◌^◌, Bool, true, false, not, ◌&&◌, ◌||◌, ◌==◌, nat_lt, List, [], ◌∷◌, ◌++◌, length, bytes_eq, codes, Option, Some, None, slice_index_or}
+use Rattle.std.specs.Prelude.{◌≡◌, ◌≤◌, ℕ, ◌^◌, Bool, true, false, not, ◌&&◌, ◌||◌, ◌==◌, nat_lt, List, [], ◌∷◌, ◌++◌, length, bytes_eq, codes, decimal, Option, Some, None, slice_index_or}
 use Rattle.std.specs.List.{list_all, list_any}
 use Rattle.nf_core.specs.Identifiers.{is_identifier}
+use Rattle.nfer_cli.specs.declared.line_count.TheConstants.{MOST_DRILL_LINES}
 
 -- what the options of a command give: whether every candidate is held, and the module that is selected with those
 -- that it reaches, where one is named
@@ -56,14 +57,19 @@ abbrev pub is_trace_word : List ℕ → Bool
 is_trace_word word = bytes_eq word standard_input || is_file_word word
 
 -- a command with what its options give, the words of the specification's files, and the word of the trace where
--- it is given
+-- it is given; of `drill` the number of its lines
 pub data Asked : Type 0 where
   Check : Options → List (List ℕ) → Asked
   Follow : Options → List (List ℕ) → Asked
   Infer : Options → List (List ℕ) → List ℕ → Asked
+  Drill : ℕ → Asked
+
+-- the most lines of a made trace, 1,000,000
+abbrev pub most_drill_lines : ℕ
+most_drill_lines = MOST_DRILL_LINES
 
 -- what words ask for: they are the command, then its options, then file words, and of `infer` the word of the
--- trace behind them
+-- trace behind them; of `drill` they are the command and a canonical decimal from 1 to 1,000,000
 pub data Asks : List (List ℕ) → Asked → Type 0 where
   check : {given files : List (List ℕ)} {options : Options}
       → Gives check_options given options → are_file_words files ≡ true
@@ -75,6 +81,8 @@ pub data Asks : List (List ℕ) → Asked → Type 0 where
       → Gives follow_options given options → are_file_words files ≡ true
       → is_trace_word trace ≡ true
       → Asks (codes "infer" ∷ given ++ (files ++ trace ∷ [])) (Infer options files trace)
+  drill : {lines : ℕ} → 1 ≤ lines → lines ≤ most_drill_lines
+      → Asks (codes "drill" ∷ decimal lines ∷ []) (Drill lines)
 
 -- words ask for nothing
 abbrev pub AsksNothing : List (List ℕ) → Type 0
@@ -90,6 +98,7 @@ abbrev pub trace_of : Asked → Option (List ℕ)
 trace_of (Check options files) = None
 trace_of (Follow options files) = Some standard_input
 trace_of (Infer options files trace) = Some trace
+trace_of (Drill lines) = None
 
 -- the words of a specification's files, in the order in which they are read
 abbrev pub specification_words : Option Asked → List (List ℕ)
@@ -97,6 +106,7 @@ specification_words None = []
 specification_words (Some (Check options files)) = files
 specification_words (Some (Follow options files)) = files
 specification_words (Some (Infer options files trace)) = files
+specification_words (Some (Drill lines)) = []
 
 -- the words of files with that of a trace behind them, where there is one
 abbrev pub with_trace : List (List ℕ) → Option (List ℕ) → List (List ℕ)

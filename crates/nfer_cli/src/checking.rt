@@ -2,6 +2,7 @@
 
 ghost use Rattle.std.specs.Prelude.{◌<◌, ◌^◌, Some, All, length};
 ghost use Rattle.nf_core.specs.Trees.{IsWritten};
+ghost use Rattle.nfer_cli.specs.Answers.{checked};
 ghost use Rattle.nfer_cli.specs.Calls.{CarriesOut};
 ghost use Rattle.nfer_cli.specs.inner.Ended.{Prints};
 ghost use Rattle.nfer_cli.specs.inner.Failures.{concluded};
@@ -11,9 +12,10 @@ ghost use Rattle.nfer_cli.specs.inner.Options.{given_by};
 use crate::fault::Failure;
 use crate::listing::listing;
 use crate::options::CommandOptions;
+use crate::printing::print_text;
 use crate::specified::read_specification;
 use nf_core::Text;
-use nf_io::{Failed, Shelf, Sink, write_all};
+use nf_io::{Shelf, Sink};
 use nf_spec::{Compiled, every_specification_has_one_answer};
 use std::alloc::Global;
 
@@ -39,11 +41,9 @@ pub(crate) fn check<F: Shelf, O: Sink>(
 // Prints the rules of a specification, once the whole text is made.
 fn print_rules<O: Sink>(alloc: Global, made: &Compiled, out: &mut O) -> Result<(), Failure>
     requires { All IsWritten made.now.rules }
-    ensures { Prints made.now result (O.tells out.old) (O.tells out.new) }
+    ensures { Prints (checked made.now).output.text result
+        (O.tells out.old) (O.tells out.new) }
 {
     let lines = listing(alloc, &made.rules, &made.levels)?;
-    match write_all(out, lines.as_slice()) {
-        Ok(()) => Ok(()),
-        Err(Failed) => Err(Failure::Write),
-    }
+    print_text(out, lines.as_slice())
 }

@@ -5,8 +5,9 @@ ghost use Rattle.std.specs.Option.{option_copied};
 ghost use Rattle.std.specs.List.{list_all};
 ghost use Rattle.nfer_cli.specs.Words.{are_file_words, is_file_word, is_trace_word, specification_words, file_words, word_at, trace_of, no_options, check_options, follow_options};
 ghost use Rattle.nfer_cli.specs.inner.Options.{taken};
-ghost use Rattle.nfer_cli.specs.inner.Commands.{asked, asked_by, check_of, follow_of, infer_of};
+ghost use Rattle.nfer_cli.specs.inner.Commands.{asked, asked_by, check_of, drill_of, follow_of, infer_of};
 
+use crate::line_count::parse_lines;
 use crate::options::{CommandOptions, take_options};
 use nf_core::Text;
 
@@ -35,6 +36,10 @@ pub(crate) enum Command<'a> {
         files: &'a [Text],
         trace: &'a str,
     },
+    /// Counts what this many lines of the made trace change.
+    Drill {
+        lines: u32,
+    },
 }
 
 impl<'a> Command<'a> {
@@ -49,6 +54,7 @@ impl<'a> Command<'a> {
             "check" => parse_check(words),
             "follow" => parse_follow(words),
             "infer" => parse_infer(words),
+            "drill" => parse_drill(words),
             _ => None,
         }
     }
@@ -62,6 +68,7 @@ impl<'a> Command<'a> {
             Command::Check { .. } => None,
             Command::Follow { .. } => Some(TRACE_WORD),
             Command::Infer { trace, .. } => Some(trace),
+            Command::Drill { .. } => None,
         }
     }
 
@@ -73,6 +80,7 @@ impl<'a> Command<'a> {
             Command::Check { files, .. }
             | Command::Follow { files, .. }
             | Command::Infer { files, .. } => files,
+            Command::Drill { .. } => &[],
         }
     }
 
@@ -127,6 +135,19 @@ fn parse_infer<'a>(words: &'a [Text]) -> Option<Command<'a>>
         files,
         trace,
     })
+}
+
+// What the words behind `drill` ask for: one, the number of the lines.
+fn parse_drill<'a>(words: &'a [Text]) -> Option<Command<'a>>
+    ensures { option_map asked_by result ≡ drill_of words.now }
+{
+    match words {
+        [word] => {
+            let lines = parse_lines(word.as_str())?;
+            Some(Command::Drill { lines })
+        }
+        _ => None,
+    }
 }
 
 // Whether words can be those of a specification's files: one or more, fewer than 2^32, and none

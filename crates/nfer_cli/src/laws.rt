@@ -5,6 +5,7 @@ ghost use Rattle.nf_io.specs.Files.{Files};
 ghost use Rattle.nfer_cli.specs.Answers.{Answer, Defines};
 ghost use Rattle.nfer_cli.specs.Words.{Asked, Asks, AsksNothing};
 
+use nf_drill::drill_has_one_plan;
 use nf_spec::every_specification_has_one_answer;
 
 /// Words ask for one thing at most (`Asks` of specs/Words.antt), and whether they ask for something is known:
@@ -23,5 +24,6 @@ pub fn every_question_has_one_answer()
     ensures one { (asked : Option Asked) (files : Files) (m n : ℕ) (a b : Answer)
         → Defines asked files m a → Defines asked files n b → (m ≡ n) × (a ≡ b) }
 {
+    drill_has_one_plan();
     every_specification_has_one_answer();
 }

@@ -1,19 +1,20 @@
 //! Running a session over a trace.
 
-ghost use Rattle.std.specs.Prelude.{◌≡◌, ◌<◌, ◌^◌, Some, length};
+ghost use Rattle.std.specs.Prelude.{◌≡◌, ◌<◌, ◌^◌, IfSome, Some, length};
 ghost use Rattle.nf_core.specs.Plan.{IsPlan};
 ghost use Rattle.nfer_cli.specs.Calls.{CarriesOut};
+ghost use Rattle.nfer_cli.specs.Evaluating.{EvaluatesWithin};
 ghost use Rattle.nfer_cli.specs.inner.Failures.{concluded};
 ghost use Rattle.nfer_cli.specs.inner.Options.{given_by};
-ghost use Rattle.nfer_cli.specs.inner.Running.{Runs, session_asks, trace_by};
+ghost use Rattle.nfer_cli.specs.inner.Running.{KeepsToLines, Runs, session_asks, trace_by};
 
 use crate::command::TRACE_WORD;
 use crate::fault::Failure;
 use crate::options::CommandOptions;
 use crate::specified::read_specification;
 use nf_core::{Plan, Steps, Text};
+use nf_engine::Engine;
 use nf_io::{Failed, Shelf, Sink};
-use nf_model::Scratch;
 use nf_session::{SessionEnd, follow, infer, replay_is_what_is_shown};
 use nf_spec::{Compiled, every_specification_has_one_answer};
 use std::alloc::Global;
@@ -53,9 +54,12 @@ pub(crate) fn run_session<F: Shelf, O: Sink, L: Ledger>(
 ) -> Result<(), Failure>
     requires some { 0 < length files.now }
     requires few { length files.now < 2 ^ 32 }
-    ensures { CarriesOut (Some (session_asks session.entry (given_by options.entry) files.now))
-        (concluded result)
+    ensures carries_out { CarriesOut
+        (Some (session_asks session.entry (given_by options.entry) files.now)) (concluded result)
         (F.tells shelf.old) (F.tells shelf.new) (O.tells out.old) (O.tells out.new) }
+    ensures evaluates { IfSome (F.tells shelf.old).files (λ told. EvaluatesWithin
+        (Some (session_asks session.entry (given_by options.entry) files.now))
+        told steps.old steps.new) }
 {
     every_specification_has_one_answer();
     replay_is_what_is_shown();
@@ -83,14 +87,16 @@ fn run_under<F: Shelf, O: Sink, L: Ledger>(
     ensures valid { IsPlan plan }
     ensures runs { Runs session.entry plan full result
         (F.tells shelf.old) (F.tells shelf.new) (O.tells out.old) (O.tells out.new) }
+    ensures work { IfSome (F.tells shelf.old).files
+        (KeepsToLines session.entry plan full steps.old steps.new) }
 {
-    let scratch = Scratch::new(alloc, &plan, full)?;
+    let engine = Engine::new(alloc, &plan, full)?;
     match shelf.pick(session.trace()) {
         Ok(()) => {}
         Err(Failed) => return Err(SessionEnd::ReadFault),
     }
     match session {
-        Session::Follow => follow(alloc, plan, scratch, shelf, out, steps),
-        Session::Infer { .. } => infer(alloc, plan, scratch, shelf, out, steps),
+        Session::Follow => follow(alloc, plan, engine, shelf, out, steps),
+        Session::Infer { .. } => infer(alloc, plan, engine, shelf, out, steps),
     }
 }

@@ -1,14 +1,16 @@
 //! The top call.
 
-ghost use Rattle.std.specs.Prelude.{◌≡◌, Some, ◌↔◌, option_map, Option};
+ghost use Rattle.std.specs.Prelude.{◌≡◌, IfSome, Some, ◌↔◌, option_map, Option};
 ghost use Rattle.nfer_cli.specs.Words.{Asked, AsksFor, AsksNothing, file_words};
 ghost use Rattle.nfer_cli.specs.Messages.{Reports, message};
 ghost use Rattle.nfer_cli.specs.Calls.{CarriesOut};
+ghost use Rattle.nfer_cli.specs.Evaluating.{EvaluatesWithin};
 ghost use Rattle.nfer_cli.specs.inner.Commands.{asked_by, NamesFiles};
 ghost use Rattle.nfer_cli.specs.inner.Failures.{concluded};
 
 use crate::checking::check;
 use crate::command::Command;
+use crate::drilling::run_drill;
 use crate::fault::Failure;
 use crate::messages::report;
 use crate::running::{Session, run_session};
@@ -45,6 +47,13 @@ pub fn run<F: Shelf, O: Sink, E: Sink, L: Ledger>(
         → CarriesOut question result
         (F.tells shelf.old) (F.tells shelf.new) (O.tells out.old) (O.tells out.new) }
 
+    // Where the shelf tells its files, no more expressions are evaluated than the lines of the trace are worth:
+    // for each line the work from what was entered before it to what was entered with it. That holds at every
+    // end; where no trace is read or made, nothing is evaluated.
+    ensures evaluates { (question : Option Asked) → AsksFor words.now question
+        → IfSome (F.tells shelf.old).files (λ files.
+        EvaluatesWithin question files steps.old steps.new) }
+
     // Standard error gets the message of the status and nothing else, unless it fails itself: then it
     // took a prefix of it.
     ensures message { (question : Option Asked) → AsksFor words.now question
@@ -65,8 +74,10 @@ fn answer<F: Shelf, O: Sink, L: Ledger>(
     steps: &mut Steps<L>,
 ) -> Status
     requires { NamesFiles (option_map asked_by command) }
-    ensures { CarriesOut (option_map asked_by command.entry) result
+    ensures carries_out { CarriesOut (option_map asked_by command.entry) result
         (F.tells shelf.old) (F.tells shelf.new) (O.tells out.old) (O.tells out.new) }
+    ensures evaluates { IfSome (F.tells shelf.old).files (λ files.
+        EvaluatesWithin (option_map asked_by command.entry) files steps.old steps.new) }
 {
     let Some(command) = command else {
         return Status::Usage;
@@ -86,8 +97,10 @@ fn carry_out<F: Shelf, O: Sink, L: Ledger>(
     steps: &mut Steps<L>,
 ) -> Result<(), Failure>
     requires { NamesFiles (Some (asked_by command)) }
-    ensures { CarriesOut (Some (asked_by command.entry)) (concluded result)
+    ensures carries_out { CarriesOut (Some (asked_by command.entry)) (concluded result)
         (F.tells shelf.old) (F.tells shelf.new) (O.tells out.old) (O.tells out.new) }
+    ensures evaluates { IfSome (F.tells shelf.old).files (λ files.
+        EvaluatesWithin (Some (asked_by command.entry)) files steps.old steps.new) }
 {
     match command {
         Command::Check { options, files } => check(alloc, options, files, shelf, out),
@@ -107,5 +120,6 @@ fn carry_out<F: Shelf, O: Sink, L: Ledger>(
             out,
             steps,
         ),
+        Command::Drill { lines } => run_drill(alloc, lines, out, steps),
     }
 }

@@ -1,24 +1,23 @@
--- How printing rules ends, and how a session over a trace does.
+-- How printing a text ends, and how a session over a trace does.
 use Rattle.std.specs.Prelude.{ℕ, ◌+◌, List, [], Option, Result, Ok, Err}
 use Rattle.nf_io.specs.Bytes.{Took, TookPart}
 use Rattle.nf_io.specs.Causes.{Rose}
 use Rattle.nf_io.specs.Tells.{SinkTells}
 use Rattle.nf_line.specs.Trace.{trace}
 use Rattle.nf_session.specs.Sessions.{Output}
-use Rattle.nf_spec.specs.declared.compiling.Compiled.{Compiled}
-use Rattle.nfer_cli.specs.Answers.{EndsFor, LeftBy, WroteOver, checked, status_of}
+use Rattle.nfer_cli.specs.Answers.{EndsFor, LeftBy, WroteOver, status_of}
 use Rattle.nfer_cli.specs.declared.fault.Failure.{Failure}
 use Rattle.nfer_cli.specs.declared.fault.Failure.TheVariants as failure
 use Rattle.nfer_cli.specs.declared.status.Status.{Status}
 
--- the rules of a specification were printed: the whole text was taken; or less than it, at a fault of the output;
--- or nothing, where memory was wanted
-abbrev pub Prints : Compiled → Result (Unit {0}) Failure → SinkTells → SinkTells → Type 0
-Prints made (Ok done) before now = Took before.taken now.taken (checked made).output.text
-Prints made (Err failure.Write) before now =
-    TookPart before.taken now.taken (checked made).output.text × Rose before.faults now.faults
-Prints made (Err failure.NoMemory) before now = Took before.taken now.taken []
-Prints made (Err other) before now = ⊥
+-- a text was printed: the whole of it was taken; or less than it, at a fault of the output; or nothing, where memory
+-- was wanted
+abbrev pub Prints : List ℕ → Result (Unit {0}) Failure → SinkTells → SinkTells → Type 0
+Prints text (Ok done) before now = Took before.taken now.taken text
+Prints text (Err failure.Write) before now =
+    TookPart before.taken now.taken text × Rose before.faults now.faults
+Prints text (Err failure.NoMemory) before now = Took before.taken now.taken []
+Prints text (Err other) before now = ⊥
 
 -- a session over the trace of these bytes, which is the file at a place, ended: with the trace's status or with a
 -- fault or want of memory before it, with what was taken of its output, and with what is left of the trace

@@ -1,9 +1,11 @@
 -- Running a session over the trace that it names, under a plan.
-use Rattle.std.specs.Prelude.{◌≡◌, ◌⊎◌, ℕ, Bool, false, List, Option, Some, IfSome, Result, Err}
+use Rattle.std.specs.Prelude.{◌≡◌, ◌⊎◌, ◌+◌, ◌≤◌, ℕ, Bool, false, List, Option, Some, IfSome, Result, Err}
 use Rattle.nf_core.specs.Plan.{Plan}
 use Rattle.nf_io.specs.Causes.{Rose}
 use Rattle.nf_io.specs.Files.{Files, asked_of, bytes_of}
 use Rattle.nf_io.specs.Tells.{ShelfTells, SinkTells}
+use Rattle.nf_line.specs.Trace.{trace}
+use Rattle.nf_session.specs.Costs.{work_of}
 use Rattle.nf_session.specs.Sessions.{Output, followed, inferred, is_unread}
 use Rattle.nf_session.specs.declared.fault.SessionEnd.{SessionEnd}
 use Rattle.nf_session.specs.declared.fault.SessionEnd.TheVariants as end
@@ -61,3 +63,8 @@ pub record Runs (session : Session) (plan : Plan) (full : Bool)
   pub failed : shelf.failed ≡ false → shelf_now.failed ≡ is_unread result
   pub write_fault : result ≡ Err end.WriteFault → Rose out.faults out_now.faults
   pub files : shelf_now.files ≡ shelf.files
+
+-- a session over its trace among some files raised a counter by at most the work of the trace's lines
+abbrev pub KeepsToLines : Session → Plan → Bool → (before now : ℕ) → Files → Type 0
+KeepsToLines session plan full before now files =
+    now ≤ before + work_of plan full (trace (bytes_of files (trace_by session))).events
