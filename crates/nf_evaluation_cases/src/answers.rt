@@ -5,7 +5,7 @@ use crate::collections::{call_answers, order_answer};
 use crate::events::step_answers;
 use crate::expressions::value_answer;
 use crate::faults::fault_answer;
-use crate::following::{fed_answer, finished_answer, session_answer};
+use crate::following::{Job, job_answer};
 use crate::given::{Given, number_of};
 pub use crate::lines::lines_answer;
 use crate::lines::{length_answer, row_answer, taken_answer};
@@ -88,9 +88,9 @@ fn answer(
         "printed" => fault_answer(alloc, row),
         "print" => printed_answer(alloc, &given.plan(alloc)?, row),
         "read" => announced_answer(alloc, &given.plan(alloc)?, row.as_bytes()),
-        "fed" => fed_answer(alloc, given, rest, row),
-        "finished" => finished_answer(alloc, given, row),
-        "session" => session_answer(alloc, given, row),
+        "fed" => job_answer(alloc, given, Job::Feed { held: rest }, row),
+        "finished" => job_answer(alloc, given, Job::Finish, row),
+        "session" => job_answer(alloc, given, Job::Session, row),
         _ => Err(Stopped(Wrong::Unknown)),
     }
 }

@@ -20,26 +20,37 @@ use std::sync::ledger::{Blank, Ledger};
 // The most bytes that a follower is fed.
 const MOST_FED: usize = 1_048_576;
 
-// A row, and the name whose held intervals are asked for, or an empty text.
+/// What is run over an output.
+#[derive(Debug, Clone, Copy)]
+pub enum Job<'a> {
+    /// A follower is fed pieces, between which ` & ` stands; then the held intervals of a name are shown, where
+    /// it isn't empty.
+    Feed { held: &'a str },
+    /// The same with `finish` behind the last piece, and without held intervals.
+    Finish,
+    /// A session, `follow` or `infer`, over the file with a name.
+    Session,
+}
+
+// A job and its row.
 #[derive(Debug, Clone, Copy)]
 struct Asked<'a> {
-    name: &'a str,
+    job: Job<'a>,
     row: &'a str,
 }
 
-/// A follower that is fed pieces, between which ` & ` stands: how that ends and what its output took, and
-/// then the held intervals of a name, where one is asked for.
-pub fn fed_answer(
+/// How a job over a row ends, and what its output took.
+pub fn job_answer(
     alloc: Global,
     given: &Given<'_>,
-    name: &str,
+    job: Job<'_>,
     row: &str,
 ) -> Result<String, Stopped> {
-    fed_counted::<Brand>(alloc, given, Asked { name, row }, Blank::new(1))
+    counted::<Brand>(alloc, given, Asked { job, row }, Blank::new(1))
 }
 
 // The same, with the ledger of the counter.
-fn fed_counted<L: Ledger>(
+fn counted<L: Ledger>(
     alloc: Global,
     given: &Given<'_>,
     asked: Asked<'_>,
@@ -50,23 +61,46 @@ fn fed_counted<L: Ledger>(
     requires one { L.parts ≡ 1 }
 {
     let mut steps = Steps::<L>::new(blank);
-    fed_over(alloc, given, asked.name, asked.row, &mut steps)
+    over(alloc, given, asked, &mut steps)
 }
 
 // The same, with the counter.
-fn fed_over<L: Ledger>(
+fn over<L: Ledger>(
     alloc: Global,
     given: &Given<'_>,
-    name: &str,
-    row: &str,
+    asked: Asked<'_>,
     steps: &mut Steps<L>,
 ) -> Result<String, Stopped> {
     let mut buffer = vec![in alloc; b'.'; given.room]?;
-    let mut out = MemSink::new(buffer.as_mut_slice(), given.most, given.calls(alloc)?);
-    fed_into(alloc, given, name, row, &mut out, steps)
+    let calls = failing_writes(alloc, given, asked.job)?;
+    let mut out = MemSink::new(buffer.as_mut_slice(), given.most, calls);
+    into(alloc, given, asked, &mut out, steps)
+}
+
+// The calls of the output that fail: those that were given, but of a session, whose shelf they are of.
+fn failing_writes(alloc: Global, given: &Given<'_>, job: Job<'_>) -> Result<CallList, Stopped> {
+    match job {
+        Job::Session => Ok(CallList::new(alloc)),
+        Job::Feed { .. } | Job::Finish => given.calls(alloc),
+    }
 }
 
 // The same, with the output.
+fn into<O: Kept, L: Ledger>(
+    alloc: Global,
+    given: &Given<'_>,
+    asked: Asked<'_>,
+    out: &mut O,
+    steps: &mut Steps<L>,
+) -> Result<String, Stopped> {
+    match asked.job {
+        Job::Feed { held } => fed_into(alloc, given, held, asked.row, out, steps),
+        Job::Finish => finished_into(alloc, given, asked.row, out, steps),
+        Job::Session => session_into(alloc, given, asked.row, out, steps),
+    }
+}
+
+// Feeds a follower.
 fn fed_into<O: Kept, L: Ledger>(
     alloc: Global,
     given: &Given<'_>,
@@ -102,36 +136,7 @@ fn fed_shown<I: Inferer + Drop>(
     }
 }
 
-/// The same with `finish` behind the last piece, and without held intervals.
-pub fn finished_answer(alloc: Global, given: &Given<'_>, row: &str) -> Result<String, Stopped> {
-    finished_counted::<Brand>(alloc, given, Asked { name: "", row }, Blank::new(1))
-}
-
-fn finished_counted<L: Ledger>(
-    alloc: Global,
-    given: &Given<'_>,
-    asked: Asked<'_>,
-    blank: Blank,
-) -> Result<String, Stopped>
-    requires name { blank.name ≡ L.name }
-    requires parts { blank.parts ≡ L.parts }
-    requires one { L.parts ≡ 1 }
-{
-    let mut steps = Steps::<L>::new(blank);
-    finished_over(alloc, given, asked.row, &mut steps)
-}
-
-fn finished_over<L: Ledger>(
-    alloc: Global,
-    given: &Given<'_>,
-    row: &str,
-    steps: &mut Steps<L>,
-) -> Result<String, Stopped> {
-    let mut buffer = vec![in alloc; b'.'; given.room]?;
-    let mut out = MemSink::new(buffer.as_mut_slice(), given.most, given.calls(alloc)?);
-    finished_into(alloc, given, row, &mut out, steps)
-}
-
+// Feeds a follower and finishes it.
 fn finished_into<O: Kept, L: Ledger>(
     alloc: Global,
     given: &Given<'_>,
@@ -199,36 +204,7 @@ fn fed<I: Inferer + Drop, O: Sink, L: Ledger>(
     Ok(Ok(follower))
 }
 
-/// A session over the file with a name, `follow` or `infer`: how it ends, and what its output took.
-pub fn session_answer(alloc: Global, given: &Given<'_>, row: &str) -> Result<String, Stopped> {
-    session_counted::<Brand>(alloc, given, Asked { name: "", row }, Blank::new(1))
-}
-
-fn session_counted<L: Ledger>(
-    alloc: Global,
-    given: &Given<'_>,
-    asked: Asked<'_>,
-    blank: Blank,
-) -> Result<String, Stopped>
-    requires name { blank.name ≡ L.name }
-    requires parts { blank.parts ≡ L.parts }
-    requires one { L.parts ≡ 1 }
-{
-    let mut steps = Steps::<L>::new(blank);
-    session_over(alloc, given, asked.row, &mut steps)
-}
-
-fn session_over<L: Ledger>(
-    alloc: Global,
-    given: &Given<'_>,
-    row: &str,
-    steps: &mut Steps<L>,
-) -> Result<String, Stopped> {
-    let mut buffer = vec![in alloc; b'.'; given.room]?;
-    let mut out = MemSink::new(buffer.as_mut_slice(), given.most, CallList::new(alloc));
-    session_into(alloc, given, row, &mut out, steps)
-}
-
+// Runs a session.
 fn session_into<O: Kept, L: Ledger>(
     alloc: Global,
     given: &Given<'_>,
