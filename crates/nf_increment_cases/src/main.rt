@@ -1,14 +1,22 @@
-//! The program of cases of the parts that keep results by deltas: stores, by a table on standard input.
+//! The program of cases of what follows deltas: stores, and the engine, by a table on standard input.
 //!
 //! | directive | what it says |
 //! |---|---|
 //! | `flat N M`, `nested N M` | in a store of N made intervals, of which none lies inside another, or many do, a walk looks at no more than M intervals besides those that it hands out: over all relations, or over those that one order of the store decides |
+//! | `beside N M` | in a store of N made intervals, of which many lie inside another, a walk over some relation looks at more than M besides |
+//! | `engine A B` | for each seed from A to B: over a made specification, of rules of all operators over several levels, and made events, with equal times, intervals and repeats, the engine answers the change of the slow evaluator after each event, and every name holds the same. An odd seed holds every candidate |
 //!
-//! Each is one run. One that differs is a line; then comes the count. The status is 0 exactly where the
-//! table is good and none differs.
+//! Each seed, and each walk, is one run. One that differs is a line; then comes the count. The status is
+//! 0 exactly where the table is good and none differs.
 #![tactic(auto)]
 
+mod engines;
+mod made_events;
+mod made_rules;
+mod plans;
+mod random;
 mod running;
+mod seeds;
 mod stopped;
 mod visits;
 

@@ -1,7 +1,8 @@
 //! Running one case.
 
+use crate::seeds::agrees;
 use crate::stopped::Stopped;
-use crate::visits::{most_beside_flat, most_beside_nested};
+use crate::visits::{most_beside_all, most_beside_flat, most_beside_nested};
 use nf_cases::{BadTable, Case, Directive, Report};
 use std::alloc::Global;
 
@@ -18,37 +19,86 @@ pub fn run_case(alloc: Global, case: &Case, report: &mut Report) -> Result<(), B
     Ok(())
 }
 
-// Takes one directive.
+// Takes one directive that asks.
 fn enter(
     alloc: Global,
     case: &Case,
     directive: &Directive,
     report: &mut Report,
 ) -> Result<(), Stopped> {
-    let (count, most) = two_numbers(directive)?;
-    let found = match directive.word.as_str() {
-        "flat" => most_beside_flat(alloc, count)?,
-        "nested" => most_beside_nested(alloc, count)?,
-        _ => return Err(Stopped::Form),
-    };
-    count_visits(alloc, case, directive, report, found, most)
+    let (one, other) = two_numbers(directive)?;
+    match directive.word.as_str() {
+        "flat" | "nested" | "beside" => run_visits(alloc, case, directive, one, other, report),
+        "engine" => run_seeds(alloc, case, one, other, report),
+        _ => Err(Stopped::Form),
+    }
 }
 
-// Counts the run of a store, which differs where more was looked at than is allowed.
+// Compares what walks of a store look at besides with what is allowed, or with what has to be passed.
+fn run_visits(
+    alloc: Global,
+    case: &Case,
+    directive: &Directive,
+    count: u32,
+    bound: u32,
+    report: &mut Report,
+) -> Result<(), Stopped> {
+    let bound = u64::from(bound);
+    let (found, good) = match directive.word.as_str() {
+        "flat" => at_most(most_beside_flat(alloc, count)?, bound),
+        "nested" => at_most(most_beside_nested(alloc, count)?, bound),
+        _ => more_than(most_beside_all(alloc, count)?, bound),
+    };
+    count_visits(alloc, case, directive, found, good, report)
+}
+
+fn at_most(found: u64, bound: u64) -> (u64, bool) {
+    (found, found <= bound)
+}
+
+fn more_than(found: u64, bound: u64) -> (u64, bool) {
+    (found, found > bound)
+}
+
+// Counts the run of a store.
 fn count_visits(
     alloc: Global,
     case: &Case,
     directive: &Directive,
-    report: &mut Report,
     found: u64,
-    most: u32,
+    good: bool,
+    report: &mut Report,
 ) -> Result<(), Stopped> {
-    if found <= u64::from(most) {
+    if good {
         report.count(case, None)?;
         return Ok(());
     }
     let (word, rest) = (directive.word.as_str(), directive.rest.as_str());
     let text = format!(in alloc; "{word} {rest}: {found} were looked at besides")?;
+    report.count(case, Some(text.as_str()))?;
+    Ok(())
+}
+
+// Compares the engine with the slow evaluator for each seed from one number to another.
+fn run_seeds(
+    alloc: Global,
+    case: &Case,
+    from: u32,
+    to: u32,
+    report: &mut Report,
+) -> Result<(), Stopped> {
+    for seed in from..=to {
+        run_seed(alloc, case, seed, report)?;
+    }
+    Ok(())
+}
+
+fn run_seed(alloc: Global, case: &Case, seed: u32, report: &mut Report) -> Result<(), Stopped> {
+    if agrees(alloc, seed)? {
+        report.count(case, None)?;
+        return Ok(());
+    }
+    let text = format!(in alloc; "engine: seed {seed} differs")?;
     report.count(case, Some(text.as_str()))?;
     Ok(())
 }

@@ -28,8 +28,8 @@ const ONE_ORDER: usize = 7;
 // How many places of a store are asked at.
 const PROBES: u32 = 16;
 
-/// The most intervals that a walk looks at besides those that it hands out, in a store of so many of which none lies
-/// inside another.
+/// The most intervals that a walk looks at besides those that it hands out, in a store of so many of
+/// which none lies inside another.
 pub fn most_beside_flat(alloc: Global, count: u32) -> Result<u64, Stopped> {
     let mut store = Store::new(alloc);
     for place in 0..count {
@@ -39,16 +39,28 @@ pub fn most_beside_flat(alloc: Global, count: u32) -> Result<u64, Stopped> {
     Ok(most_beside(&store, count, RELATIONS.as_slice()))
 }
 
-/// The same in a store of which every tenth interval has a third of the others inside, over the relations that one
-/// order decides.
+/// The same in a store of which every tenth interval has a third of the others inside, over the
+/// relations that one order decides.
 pub fn most_beside_nested(alloc: Global, count: u32) -> Result<u64, Stopped> {
+    let store = nested_store(alloc, count)?;
+    Ok(most_beside(&store, count, &RELATIONS[..ONE_ORDER]))
+}
+
+/// The same over all relations.
+pub fn most_beside_all(alloc: Global, count: u32) -> Result<u64, Stopped> {
+    let store = nested_store(alloc, count)?;
+    Ok(most_beside(&store, count, RELATIONS.as_slice()))
+}
+
+// The store of which every tenth interval has a third of the others inside.
+fn nested_store(alloc: Global, count: u32) -> Result<Store, Stopped> {
     let mut store = Store::new(alloc);
     for place in 0..count {
         let start = 3 * i64::from(place);
         let length = if place % 10 == 0 { i64::from(count) } else { 1 };
         insert(alloc, &mut store, start, start + length)?;
     }
-    Ok(most_beside(&store, count, &RELATIONS[..ONE_ORDER]))
+    Ok(store)
 }
 
 fn insert(alloc: Global, store: &mut Store, start: i64, stop: i64) -> Result<(), Stopped>
