@@ -1,6 +1,6 @@
 //! Rows.
 
-ghost use Rattle.std.specs.Prelude.{◌≡◌, ◌<◌, [], ◌∷◌, ◌++◌, length, slice_index_or, None, Some, IfOk, OnOk, OnErr, refl};
+ghost use Rattle.std.specs.Prelude.{◌≡◌, ◌<◌, [], ◌∷◌, ◌++◌, All, length, slice_index_or, None, Some, IfOk, OnOk, OnErr, refl};
 ghost use Rattle.std.specs.Option.{option_copied};
 ghost use Rattle.std.specs.Ordering.{eq_by_cmp};
 ghost use Rattle.std.specs.Cmp.{partial_equiv_from_equiv, eq_by_cmp_equiv, po};
@@ -13,13 +13,20 @@ use smallvec::SmallVec;
 use std::alloc::Global;
 use std::cmp::Ordering;
 use std::marker::Model;
+use std::rc::Rc;
 
 /// A row: one optional value for each key of a name, in the order of the keys. Contracts see the
 /// list of these cells. Each text in a row is plain (`IsPlain` of specs/Texts).
+///
+/// Copies of a row share its cells, so an interval is small and a copy takes no memory of its own.
 #[derive(Debug, Drop)]
 pub struct Row {
-    cells: SmallVec<Option<Value>, 4>,
+    alloc: Global,
+    cells: Option<Rc<Cells>>,
 }
+
+// Cells, of which two are kept without memory of their own.
+type Cells = SmallVec<Option<Value>, 2>;
 
 impl Model for Row {
     ghost use Rattle.std.specs.Prelude.{List, Option, All};
@@ -28,10 +35,12 @@ impl Model for Row {
     ghost Value = { List (Option value.Value) };
 
     ghost use Rattle.nf_core.specs.Rows.{IsPlainCell};
+    ghost use Rattle.nf_core.specs.inner.Cells.{listed};
 
-    ghost view = { λ r. r.cells.items };
+    ghost view = { λ r. listed (λ shared. shared.value.items) r.cells };
 
-    ghost invariant = { λ r. All IsPlainCell r.cells.items };
+    ghost invariant = { λ r.
+        All IsPlainCell (listed (λ shared. shared.value.items) r.cells) };
 }
 
 impl Row {
@@ -39,18 +48,25 @@ impl Row {
     pub fn new(alloc: Global) -> Row
         ensures { result ≡ [] }
     {
-        Row {
-            cells: SmallVec::new(alloc),
-        }
+        Row { alloc, cells: None }
     }
 
-    /// Puts a cell at the end. Where memory is wanted the row stays as it was.
+    /// Puts a cell at the end. Where memory is wanted the row stays as it was. A row that shares its
+    /// cells copies them first.
     pub fn push(&mut self, cell: Option<Value>) -> Result<(), NoMemory>
         requires { IsPlainCell cell }
         ensures ok { OnOk result (self.new ≡ self.old ++ cell ∷ []) }
         ensures err { OnErr result (self.new ≡ self.old) }
     {
-        self.cells.push(cell)?;
+        if let Some(shared) = &mut self.cells {
+            if let Some(cells) = Rc::get_mut(shared) {
+                cells.push(cell)?;
+                return Ok(());
+            }
+        }
+        let mut cells = copied(self.alloc, self.as_slice())?;
+        cells.push(cell)?;
+        self.cells = Some(Rc::new(self.alloc, cells)?);
         Ok(())
     }
 
@@ -58,7 +74,7 @@ impl Row {
     pub fn len(&self) -> usize
         ensures { result ≡ length self.now }
     {
-        self.cells.len()
+        self.as_slice().len()
     }
 
     /// The value of the cell at a place, counted from 0. None exactly where it is missing. A text in
@@ -68,17 +84,41 @@ impl Row {
         ensures value { option_copied result ≡ slice_index_or self.now place None }
         ensures plain { IsPlainCell (option_copied result) }
     {
-        self.cells.as_slice()[place].as_ref()
+        self.as_slice()[place].as_ref()
     }
+
+    // The cells, as borrowed.
+    fn as_slice(&self) -> &[Option<Value>]
+        ensures cells { result.now ≡ self.now }
+        ensures plain { All IsPlainCell self.now }
+    {
+        match &self.cells {
+            Some(shared) => shared.as_slice(),
+            None => &[],
+        }
+    }
+}
+
+// A copy of cells.
+fn copied(alloc: Global, cells: &[Option<Value>]) -> Result<Cells, NoMemory>
+    ensures { IfOk result (λ copy. copy.items ≡ cells.now) }
+{
+    let mut copy = SmallVec::new(alloc);
+    for cell in cells {
+        copy.push(cell.copy(alloc)?)?;
+    }
+    Ok(copy)
 }
 
 impl TryCopy for Row {
     fn copy(&self, alloc: Global) -> Result<Row, NoMemory> {
-        let mut row = Row::new(alloc);
-        for cell in self.cells.as_slice() {
-            row.push(cell.copy(alloc)?)?;
+        match &self.cells {
+            Some(shared) => Ok(Row {
+                alloc,
+                cells: Some(shared.clone()?),
+            }),
+            None => Ok(Row::new(alloc)),
         }
-        Ok(row)
     }
 }
 
@@ -116,6 +156,6 @@ impl Ord for Row {
     ghost matches_eq = { λ a b. refl };
 
     fn cmp(&self, other: &Row) -> Ordering {
-        self.cells.cmp(&other.cells)
+        self.as_slice().cmp(other.as_slice())
     }
 }
