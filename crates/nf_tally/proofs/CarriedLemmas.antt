@@ -1,10 +1,9 @@
 -- How a delta follows the intervals that have a number, as numbers are raised and lowered.
-use Rattle.std.proofs.Common.{◌≡◌, ℕ, ◌+◌, ◌<◌, Bool, true, false, cond, not, ◌&&◌, ◌||◌, [], Some, None, nat_lt, refl, sym, ap, ◌∙◌, arith}
+use Rattle.std.proofs.Common.{◌≡◌, ℕ, ◌+◌, ◌<◌, Bool, true, false, cond, not, ◌&&◌, ◌||◌, Some, None, nat_lt, refl, sym, ap, ◌∙◌, arith}
 use Rattle.std.proofs.lemmas.Bool.Decides.{nat_tests}
 use Rattle.nf_core.specs.Intervals.{Interval, same}
 use Rattle.nf_core.specs.declared.intervals.Delta.{Delta}
 use Rattle.nf_core.proofs.Public.SameIntervalLemmas.{same_is}
-use Rattle.nf_core.proofs.Public.SetLemmas.{IsSet-empty}
 use Rattle.nf_tally.proofs.Public.LeadLemmas.{leads_alike}
 use Rattle.nf_tally.specs.Numbers.{Numbers, number, one_at, is_on, IsNet}
 use Rattle.nf_tally.specs.Deltas.{Leads, Enters, Leaves}

@@ -1,8 +1,9 @@
 -- How a delta follows a set that an interval enters or leaves.
-use Rattle.std.proofs.Common.{◌≡◌, Bool, true, false, cond, not, ◌&&◌, ◌||◌, List, refl, sym, ap, subst, ◌∙◌}
+use Rattle.std.proofs.Common.{◌≡◌, Bool, true, false, cond, not, ◌&&◌, ◌||◌, List, [], ◌∷◌, refl, sym, ap, subst, ◌∙◌}
 use Rattle.nf_core.specs.Intervals.{Interval, same}
-use Rattle.nf_core.specs.Sets.{IsSet, has}
-use Rattle.nf_core.proofs.Public.SameIntervalLemmas.{same_is}
+use Rattle.nf_core.specs.Sets.{IsSet, has, inserted, removed}
+use Rattle.nf_core.proofs.Public.SameIntervalLemmas.{same_is, same_swapped}
+use Rattle.nf_core.proofs.Public.SetLemmas.{has_inserted, has_removed}
 use Rattle.nf_tally.specs.Deltas.{Leads, Enters, Leaves}
 
 -- ---- at one interval: b whether it moves, w, n and x whether it was, is and will be in the set
@@ -114,3 +115,29 @@ module _ (was now next : Interval → Bool) (i : Interval) where
       both_ways : (b : Bool) → not b ≡ false → (b && true) ≡ true
       both_ways true e = refl
       both_ways false e = absurd cc
+
+-- ---- what a list of the delta has once an interval is put into it or taken out of it
+pub has_put : (i : Interval) (is : List Interval) (q : Interval) → has (inserted i is) q ≡ cond (same i q) true (has is q)
+has_put i is q = has_inserted i is q ∙ ap (λ b. b || has is q) (same_swapped q i) ∙ either (same i q) (has is q)
+  where
+    either : (a b : Bool) → (a || b) ≡ cond a true b
+    either true b = refl
+    either false b = refl
+
+pub has_taken : (i : Interval) (is : List Interval) (q : Interval) → IsSet is → has (removed i is) q ≡ cond (same i q) false (has is q)
+has_taken i is q s = has_removed i is q s ∙ ap (λ b. has is q && not b) (same_swapped q i) ∙ without (same i q) (has is q)
+  where
+    without : (a b : Bool) → (b && not a) ≡ cond a false b
+    without true true = refl
+    without true false = refl
+    without false true = refl
+    without false false = refl
+
+-- an interval that isn't there leaves a list as it is
+pub removed_absent : (i : Interval) (is : List Interval) → has is i ≡ false → removed i is ≡ is
+removed_absent i [] e = refl
+removed_absent i (x ∷ xs) e = by (same i x) e (removed_absent i xs)
+  where
+    by : (b : Bool) → (b || has xs i) ≡ false → (has xs i ≡ false → removed i xs ≡ xs) → cond b xs (x ∷ removed i xs) ≡ x ∷ xs
+    by true f rest = absurd cc
+    by false f rest = ap (λ ys. x ∷ ys) (rest f)

@@ -3,17 +3,18 @@
 ghost use Rattle.std.specs.Prelude.{◌≡◌, [], IfOk, OnOk, OnErr};
 ghost use Rattle.nf_tally.specs.Deltas.{Enters, Leaves, Follows};
 
-use nf_core::{Delta, Interval, IntervalList, NoMemory, TryCopy};
+use crate::few::Few;
+use nf_core::{Delta, Interval, NoMemory, TryCopy};
 use std::alloc::Global;
-use std::collections::BTreeSet;
 use std::marker::Model;
 
 /// What a set lost and gained since some time. What came and went meanwhile isn't in it. Contracts
 /// see it as the delta that it answers.
 #[derive(Drop)]
 pub struct Net {
-    gone: BTreeSet<Interval>,
-    come: BTreeSet<Interval>,
+    alloc: Global,
+    gone: Few,
+    come: Few,
 }
 
 impl Model for Net {
@@ -21,7 +22,7 @@ impl Model for Net {
 
     ghost Value = { spec.Delta };
 
-    ghost view = { λ n. record { gone = n.gone.keys; come = n.come.keys } };
+    ghost view = { λ n. record { gone = n.gone; come = n.come } };
 }
 
 impl Net {
@@ -30,8 +31,9 @@ impl Net {
         ensures { result ≡ record { gone = []; come = [] } }
     {
         Net {
-            gone: BTreeSet::new(alloc),
-            come: BTreeSet::new(alloc),
+            alloc,
+            gone: Few::new(),
+            come: Few::new(),
         }
     }
 
@@ -43,7 +45,7 @@ impl Net {
         if self.gone.remove(interval) {
             return Ok(());
         }
-        self.come.insert(interval.copy(alloc)?)?;
+        self.come.insert(alloc, interval.copy(alloc)?)?;
         Ok(())
     }
 
@@ -55,7 +57,7 @@ impl Net {
         if self.come.remove(&interval) {
             return Ok(());
         }
-        self.gone.insert(interval)?;
+        self.gone.insert(self.alloc, interval)?;
         Ok(())
     }
 
@@ -63,17 +65,10 @@ impl Net {
     pub fn into_delta(self, alloc: Global) -> Result<Delta, NoMemory>
         ensures { IfOk result (λ delta. delta ≡ self) }
     {
-        let Net { gone, come } = self;
+        let Net { gone, come, .. } = self;
         Ok(Delta {
-            gone: listed(alloc, gone)?,
-            come: listed(alloc, come)?,
+            gone: gone.into_list(alloc)?,
+            come: come.into_list(alloc)?,
         })
     }
-}
-
-/// The intervals of a set, moved into a list, ascending.
-fn listed(alloc: Global, set: BTreeSet<Interval>) -> Result<IntervalList, NoMemory>
-    ensures { IfOk result (λ list. list ≡ set.keys) }
-{
-    Ok(IntervalList::from_vec(set.into_iter().collect(alloc)?))
 }
