@@ -1,9 +1,9 @@
 -- The first times of a part of the order by end, and the place that they lead to.
 use Rattle.std.proofs.Common.{◌≡◌, ℤ, ℕ, Bool, true, false, cond, ◌||◌, List, [], ◌∷◌, filter, Option, Some, None, refl, sym, ap, subst, ◌∙◌, true≢false, arith, Bor}
-use Rattle.std.specs.Prelude.{◌≤ℤ◌, int_le, int_lt}
+use Rattle.std.specs.Prelude.{◌≤ℤ◌, ◌<ℤ◌, int_le, int_lt}
 use Rattle.std.specs.declared.cmp.Ordering.{Ordering}
 use Rattle.std.specs.declared.cmp.Ordering.TheVariants.{Less, Equal, Greater}
-use Rattle.std.specs.Ordering.{is_eq, is_le, ordering_reverse}
+use Rattle.std.specs.Ordering.{is_eq, is_lt, is_le, ordering_reverse}
 use Rattle.std.specs.Option.{option_copied}
 use Rattle.std.specs.Iterator.{YieldsFirstRef}
 use Rattle.std.specs.List.{AllByRecursion}
@@ -141,3 +141,29 @@ from_upward time t u e f = grind (arith, ints, e, f)
 
 pub after_upward : (time : ℤ) (t u : Times) → int_lt time t.stop ≡ true → is_le (times_cmp t u) ≡ true → int_lt time u.stop ≡ true
 after_upward time t u e f = grind (arith, ints, e, f)
+
+-- ---- the latest end
+-- what isn't after the last times doesn't end after them
+no_later : (last t : Times) → is_lt (times_cmp last t) ≡ false → t.stop ≤ℤ last.stop
+no_later last t e = grind (arith, ints, e)
+
+pub latest_end : (last : Times) (ends : List Times) → AllByRecursion (λ t. is_lt (times_cmp last t) ≡ false) ends → (t : Times) → has_end ends t ≡ true → t.stop ≤ℤ last.stop
+latest_end last [] all t there = absurd (true≢false (sym there))
+latest_end last (x ∷ xs) all t there = by (is_same_end t x) refl (latest_end last xs all.1 t)
+  where
+    by : (b : Bool) → is_same_end t x ≡ b → (has_end xs t ≡ true → t.stop ≤ℤ last.stop) → t.stop ≤ℤ last.stop
+    by true e rest = subst (λ u. u.stop ≤ℤ last.stop) (sym (same_end_is t x e)) (no_later last x all.0)
+    by false e rest = rest (sym (ap (λ b. b || has_end xs t) e) ∙ there)
+
+-- so from later times on there is no interval
+pub past_from : (is : List Interval) (ends : List Times) (time latest : ℤ) → IsIndex is ends 0 → ((t : Times) → has_end ends t ≡ true → t.stop ≤ℤ latest) → latest <ℤ time
+    → (i : Interval) → has is i ≡ true → false ≡ int_le time i.stop
+past_from is ends time latest index most late i there =
+    let end = most (times_of i) (end_of_member is ends 0 index i there) in
+    grind (arith, ints)
+
+pub past_after : (is : List Interval) (ends : List Times) (time latest : ℤ) → IsIndex is ends 0 → ((t : Times) → has_end ends t ≡ true → t.stop ≤ℤ latest) → latest ≤ℤ time
+    → (i : Interval) → has is i ≡ true → false ≡ int_lt time i.stop
+past_after is ends time latest index most late i there =
+    let end = most (times_of i) (end_of_member is ends 0 index i there) in
+    grind (arith, ints)

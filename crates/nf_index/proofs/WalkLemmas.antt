@@ -180,7 +180,7 @@ AreInOrder-part is ends part n test index p = subst AreInOrder (sym p.is) (in_or
 
 -- ---- tests
 -- a part that no interval of is kept by
-filter_none : (p : Interval → Bool) (is : List Interval) → ((i : Interval) → has is i ≡ true → p i ≡ false) → filter p is ≡ []
+pub filter_none : (p : Interval → Bool) (is : List Interval) → ((i : Interval) → has is i ≡ true → p i ≡ false) → filter p is ≡ []
 filter_none p [] h = refl
 filter_none p (x ∷ xs) h =
     ap (λ b. cond b (x ∷ filter p xs) (filter p xs)) (h x (ap (λ b. b || has xs x) (same_self x))) ∙ filter_none p xs (λ i there. h i (either (same i x) (has xs i) there))
@@ -220,3 +220,11 @@ none_at t i stored backward e =
     let same : t ≡ times_of i = same_end_is t (times_of i) e in
     let forward : t.start ≤ℤ t.stop = subst (λ u. u.start ≤ℤ u.stop) (sym same) stored.in_time in
     absurd (omega (arith, ints))
+
+-- an interval within times of which the end isn't after the begin has just these
+pub one_within : (t : Times) (i : Interval) → IsStored i → t.stop ≤ℤ t.start → t.start ≤ℤ i.start → i.stop ≤ℤ t.stop → has_times t i ≡ true
+one_within t i stored backward low high =
+    let forward = stored.in_time in
+    let stop : i.stop ≡ t.stop = omega (arith, ints) in
+    let start : i.start ≡ t.start = omega (arith, ints) in
+    subst (λ u. is_same_end u (times_of i) ≡ true) (λ k. record { stop = stop k; start = start k }) (ap is_eq (same_end_self (times_of i)))

@@ -1,11 +1,12 @@
 //! Parts of the order by end, and where they lead to in the order by begin.
 
-ghost use Rattle.std.specs.Prelude.{◌≡◌, ℕ, List, true, int_lt, int_le};
+ghost use Rattle.std.specs.Prelude.{◌≡◌, ◌≤ℤ◌, ℕ, List, true, int_lt, int_le, IfSome};
 ghost use Rattle.std.specs.Ordering.{int_eq};
 ghost use Rattle.std.specs.List.Sorted.{IsStrictlySortedBy};
 ghost use Rattle.nf_core.specs.Intervals as spec;
 ghost use Rattle.nf_core.specs.Sets.{has};
-ghost use Rattle.nf_index.specs.inner.Orders.{IsIndex, IsPart, IsPlace, reached, times_cmp};
+ghost use Rattle.nf_index.specs.declared.times.Times as spec_times;
+ghost use Rattle.nf_index.specs.inner.Orders.{IsIndex, IsPart, IsPlace, has_end, reached, times_cmp};
 
 use crate::times::Times;
 use std::collections::{BTreeSet, btree_set};
@@ -64,6 +65,15 @@ pub fn ends_after<'a>(ends: &'a BTreeSet<Times>, time: &i64) -> btree_set::Range
     ends.range((Bound::Excluded(last), Bound::Unbounded))
 }
 
+// The latest of some ends, None where there is none. Takes no memory.
+fn latest(ends: &BTreeSet<Times>) -> Option<Times>
+    ensures { IfSome result (λ last. (t : spec_times.Times) →
+        has_end ends.now.keys t ≡ true → t.stop ≤ℤ last.stop) }
+{
+    let last = ends.last()?;
+    Some(*last)
+}
+
 /// The place of the first interval that ends at a time or later, where ends fall nowhere. Takes no
 /// memory.
 pub fn end_from(ends: &BTreeSet<Times>, time: &i64) -> Option<Times>
@@ -72,7 +82,10 @@ pub fn end_from(ends: &BTreeSet<Times>, time: &i64) -> Option<Times>
     ensures is { (is : List spec.Interval) → IsIndex is ends.now.keys 0 →
         (i : spec.Interval) → has is i ≡ true → reached result i ≡ int_le time.now i.stop }
 {
-    ends_from(ends, time).next().copied()
+    match latest(ends) {
+        Some(latest) if latest.stop < *time => None,
+        _ => ends_from(ends, time).next().copied(),
+    }
 }
 
 /// The place of the first interval that ends after a time, where ends fall nowhere. Takes no memory.
@@ -82,5 +95,8 @@ pub fn end_after(ends: &BTreeSet<Times>, time: &i64) -> Option<Times>
     ensures is { (is : List spec.Interval) → IsIndex is ends.now.keys 0 →
         (i : spec.Interval) → has is i ≡ true → reached result i ≡ int_lt time.now i.stop }
 {
-    ends_after(ends, time).next().copied()
+    match latest(ends) {
+        Some(latest) if latest.stop <= *time => None,
+        _ => ends_after(ends, time).next().copied(),
+    }
 }

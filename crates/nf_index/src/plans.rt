@@ -9,8 +9,8 @@ ghost use Rattle.nf_index.specs.inner.Walks.{left, IsWithin, IsAround, IsOverlap
 ghost use Rattle.nf_index.specs.inner.Windows.{in_window};
 
 use crate::ends::{end_after, end_from, ends_after, ends_at, ends_before, ends_from};
-use crate::rest::{Ends, Parts, Rest};
-use crate::times::{Times, after_times, begin_after, begin_from, between, nothing, with_times};
+use crate::rest::{Ends, Parts, Rest, next_in};
+use crate::times::{Times, after_times, begin_after, begin_from, between, with_times};
 use crate::windows::Window;
 use nf_core::IntervalSet;
 use std::alloc::Global;
@@ -34,6 +34,7 @@ fn part<'a>(
 }
 
 // The same without those that have given times, where that is asked and an interval may have them.
+// Mostly there are none at all, which is asked first.
 fn run<'a>(
     alloc: Global,
     begins: &'a IntervalSet,
@@ -53,9 +54,13 @@ fn run<'a>(
     if !strictly || times.stop < times.start {
         return part(alloc, begins, low, high);
     }
+    let mut whole = between(alloc, begins, low, high);
+    if next_in(&mut whole).is_none() {
+        return Rest::Nothing;
+    }
     Rest::Parts(Parts {
         part: between(alloc, begins, low, &Some(*times)),
-        then: Some(between(alloc, begins, &after_times(times), high)),
+        then: between(alloc, begins, &after_times(times), high),
     })
 }
 
@@ -72,7 +77,7 @@ fn by_end<'a>(
     Rest::Ends(Ends {
         alloc,
         begins,
-        part: nothing(alloc, begins),
+        part: None,
         times,
     })
 }
@@ -85,10 +90,7 @@ fn at<'a>(alloc: Global, begins: &'a IntervalSet, times: &Times) -> Rest<'a>
         → Covers w begins.now (left result) }
 {
     if times.stop < times.start {
-        return Rest::Parts(Parts {
-            part: nothing(alloc, begins),
-            then: None,
-        });
+        return Rest::Nothing;
     }
     Rest::Parts(Parts {
         part: with_times(alloc, begins, times),
@@ -109,7 +111,8 @@ fn past_ends(ends: &BTreeSet<Times>, falls: usize, time: &i64) -> Option<Times>
     }
 }
 
-/// The walk over the intervals within given times, or strictly within them.
+/// The walk over the intervals within given times, or strictly within them, which an instant has
+/// none of.
 pub fn within<'a>(
     alloc: Global,
     begins: &'a IntervalSet,
@@ -122,6 +125,9 @@ pub fn within<'a>(
     ensures { (w : spec.Interval → Bool) → IsWithin w times.now.start times.now.stop
         → IsApart strictly w times.now → Covers w begins.now (left result) }
 {
+    if strictly && times.stop <= times.start {
+        return Rest::Nothing;
+    }
     let low = begin_from(&times.start);
     let high = past_ends(ends, falls, &times.stop);
     run(alloc, begins, &low, &high, times, strictly)

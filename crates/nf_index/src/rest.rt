@@ -2,6 +2,7 @@
 //! order by end to the intervals that have them.
 
 ghost use Rattle.std.specs.Iterator.{YieldsFirstRef, item_count};
+ghost use Rattle.nf_index.specs.inner.Orders.{or_none};
 ghost use Rattle.nf_index.specs.inner.Walks.{left};
 
 use crate::times::{Times, with_times};
@@ -10,10 +11,20 @@ use std::alloc::Global;
 use std::collections::btree_set;
 use std::marker::Model;
 
+/// The next interval of a part, where there is one. Takes no memory.
+pub fn next_in<'a>(part: &mut Option<Part<'a>>) -> Option<&'a Interval>
+    ensures { YieldsFirstRef or_none part.old result part.new }
+{
+    match part {
+        Some(part) => part.next(),
+        None => None,
+    }
+}
+
 /// A part of the order by begin, and one more after it. Contracts see the intervals that are left.
 #[derive(Drop)]
 pub struct Parts<'a> {
-    pub(crate) part: Part<'a>,
+    pub(crate) part: Option<Part<'a>>,
     pub(crate) then: Option<Part<'a>>,
 }
 
@@ -24,7 +35,7 @@ impl<'a> Model for Parts<'a> {
 
     ghost Value = { List interval.Interval };
 
-    ghost view = { λ p. p.part ++ or_none p.then };
+    ghost view = { λ p. or_none p.part ++ or_none p.then };
 }
 
 impl<'a> Iterator for Parts<'a> {
@@ -35,14 +46,11 @@ impl<'a> Iterator for Parts<'a> {
     ghost remaining = { item_count (λ p. p) };
 
     fn next(&mut self) -> Option<&'a Interval> {
-        if let Some(interval) = self.part.next() {
+        if let Some(interval) = next_in(&mut self.part) {
             return Some(interval);
         }
-        let Some(then) = self.then.take() else {
-            return None;
-        };
-        self.part = then;
-        self.part.next()
+        self.part = self.then.take();
+        next_in(&mut self.part)
     }
 }
 
@@ -52,18 +60,18 @@ impl<'a> Iterator for Parts<'a> {
 pub struct Ends<'a> {
     pub(crate) alloc: Global,
     pub(crate) begins: &'a IntervalSet,
-    pub(crate) part: Part<'a>,
+    pub(crate) part: Option<Part<'a>>,
     pub(crate) times: btree_set::Range<'a, Times>,
 }
 
 impl<'a> Model for Ends<'a> {
     ghost use Rattle.std.specs.Prelude.{List, ◌++◌};
     ghost use Rattle.nf_core.specs.Intervals as interval;
-    ghost use Rattle.nf_index.specs.inner.Orders.{AreStored, AreInOrder, by_times};
+    ghost use Rattle.nf_index.specs.inner.Orders.{AreStored, AreInOrder, by_times, or_none};
 
     ghost Value = { List interval.Interval };
 
-    ghost view = { λ e. e.part ++ by_times e.begins.now e.times };
+    ghost view = { λ e. or_none e.part ++ by_times e.begins.now e.times };
 
     ghost invariant = { λ e. AreStored e.begins.now × AreInOrder e.times };
 }
@@ -77,7 +85,7 @@ impl<'a> Iterator for Ends<'a> {
 
     fn next(&mut self) -> Option<&'a Interval> {
         loop {
-            if let Some(interval) = self.part.next() {
+            if let Some(interval) = next_in(&mut self.part) {
                 return Some(interval);
             }
             let Some(times) = self.times.next() else {
@@ -88,9 +96,10 @@ impl<'a> Iterator for Ends<'a> {
     }
 }
 
-/// One of the two walks.
+/// One of the two walks, or none.
 #[derive(Drop)]
 pub enum Rest<'a> {
+    Nothing,
     Parts(Parts<'a>),
     Ends(Ends<'a>),
 }
@@ -100,6 +109,7 @@ pub fn next_of<'a>(rest: &mut Rest<'a>) -> Option<&'a Interval>
     ensures { YieldsFirstRef left rest.old result rest.new }
 {
     match rest {
+        Rest::Nothing => None,
         Rest::Parts(parts) => parts.next(),
         Rest::Ends(ends) => ends.next(),
     }

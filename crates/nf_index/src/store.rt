@@ -8,11 +8,12 @@ ghost use Rattle.nf_index.specs.Matching.{matches};
 ghost use Rattle.nf_index.specs.declared.times.Times as declared;
 ghost use Rattle.nf_index.specs.inner.Orders.{IsIndex, has_end, is_same_end};
 
-use crate::falls::{counted, turns_at};
+use crate::falls::{counted, turns_at, turns_where_new};
 use crate::forgetting::pop_before;
 use crate::matching::Matching;
 use crate::plans::walk_of;
 use crate::relations::{Rel, Which};
+use crate::rest::next_in;
 use crate::times::{Times, own_times, with_times};
 use crate::windows::window_of;
 use nf_core::{Held, Interval, IntervalSet, NoMemory};
@@ -62,10 +63,9 @@ impl Store {
         ensures ok { OnOk result (self.new ≡ inserted interval self.old) }
         ensures err { OnErr result (self.new ≡ self.old) }
     {
-        if self.begins.has(&interval) {
+        let Some(turns) = turns_where_new(&self.begins, &interval) else {
             return Ok(false);
-        }
-        let turns = turns_at(&self.begins, &interval);
+        };
         let times = own_times(&interval);
         let entered = self.ends.insert(times)?;
         match self.begins.insert(interval) {
@@ -213,7 +213,8 @@ fn taken(
     ensures { IsIndex begins.now ends.new.keys result }
 {
     let times = own_times(interval);
-    let others = with_times(alloc, begins, &times).next().is_some();
+    let mut others = with_times(alloc, begins, &times);
+    let others = next_in(&mut others).is_some();
     let turns = turns_at(begins, interval);
     leave(ends, &times, !others);
     counted(begins, falls, turns.with, turns.without)

@@ -1,8 +1,9 @@
 //! Times of intervals, and the parts of a set of intervals between two of them.
 
-ghost use Rattle.std.specs.Prelude.{◌≡◌, ◌≤ℤ◌, [], Some, None, filter, not, ◌&&◌, int_lt, int_le};
+ghost use Rattle.std.specs.Prelude.{◌≡◌, ◌≤ℤ◌, true, Some, None, filter, not, ◌&&◌, int_lt, int_le};
 ghost use Rattle.nf_core.specs.Intervals as spec;
-ghost use Rattle.nf_index.specs.inner.Orders.{IsPlace, IsStored, AreStored, is_between, reached, has_times, key_of, times_of};
+ghost use Rattle.nf_core.specs.Sets.{IsSet};
+ghost use Rattle.nf_index.specs.inner.Orders.{IsPlace, IsStored, AreStored, AreBefore, is_between, or_none, reached, has_times, key_of, times_of};
 
 use nf_core::{Interval, IntervalSet, Part, Row};
 use std::alloc::Global;
@@ -37,38 +38,45 @@ fn key(alloc: Global, times: &Times) -> Interval
     }
 }
 
-/// A part of a set that has no interval. Takes no memory.
-pub fn nothing(alloc: Global, begins: &IntervalSet) -> Part<'_>
-    ensures { result ≡ [] }
+// Whether all intervals of a set come before another one. Takes no memory.
+fn are_before(begins: &IntervalSet, key: &Interval) -> bool
+    ensures before { result ≡ true → AreBefore begins.now key.now }
+    ensures sorted { IsSet begins.now }
 {
-    let first = key(alloc, &Times { stop: 0, start: 0 });
-    begins.range(&first..&first)
+    match begins.range(..).next_back() {
+        Some(last) => last.cmp(key).is_lt(),
+        None => false,
+    }
 }
 
-/// The intervals of a set from one place to before another one, where None is past the last one.
-/// Takes no memory.
+/// The intervals of a set from one place to before another one, where a place that is None is past
+/// the last one. None only where there are none: past the last one nothing is searched. Takes no
+/// memory.
 pub fn between<'a>(
     alloc: Global,
     begins: &'a IntervalSet,
     low: &Option<Times>,
     high: &Option<Times>,
-) -> Part<'a>
+) -> Option<Part<'a>>
     requires low { IsPlace low.now }
     requires high { IsPlace high.now }
-    ensures { result ≡ filter (is_between low.now high.now) begins.now }
+    ensures { or_none result ≡ filter (is_between low.now high.now) begins.now }
 {
     let Some(low) = low else {
-        return nothing(alloc, begins);
+        return None;
     };
     let low = key(alloc, low);
+    if are_before(begins, &low) {
+        return None;
+    }
     let Some(high) = high else {
-        return begins.range(low..);
+        return Some(begins.range(low..));
     };
     let high = key(alloc, high);
     if high < low {
-        return nothing(alloc, begins);
+        return None;
     }
-    begins.range(low..high)
+    Some(begins.range(low..high))
 }
 
 /// The place of the first interval that begins at a time or later. Takes no memory.
@@ -112,10 +120,10 @@ pub fn after_times(times: &Times) -> Option<Times>
 }
 
 /// The intervals of a set with given times. Takes no memory.
-pub fn with_times<'a>(alloc: Global, begins: &'a IntervalSet, times: &Times) -> Part<'a>
+pub fn with_times<'a>(alloc: Global, begins: &'a IntervalSet, times: &Times) -> Option<Part<'a>>
     requires place { times.now.start ≤ℤ times.now.stop }
     requires stored { AreStored begins.now }
-    ensures { result ≡ filter (has_times times.now) begins.now }
+    ensures { or_none result ≡ filter (has_times times.now) begins.now }
 {
     between(alloc, begins, &Some(*times), &after_times(times))
 }

@@ -41,6 +41,10 @@ reached (Some t) i = is_le (interval_cmp (key_of t) i)
 abbrev pub is_between : (low high : Option Times) → Interval → Bool
 is_between low high i = reached low i && not (reached high i)
 
+-- each interval of a list comes before another one
+abbrev pub AreBefore : List Interval → Interval → Type 0
+AreBefore is key = (i : Interval) → has is i ≡ true → is_le (interval_cmp key i) ≡ false
+
 -- a place has the times of an interval
 abbrev pub IsPlace : Option Times → Type 0
 IsPlace None = ⊤

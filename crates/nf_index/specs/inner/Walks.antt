@@ -1,12 +1,13 @@
 -- What is left of a walk over a part of a store, and what the plans of walks go by.
-use Rattle.std.specs.Prelude.{◌≡◌, ℤ, Bool, true, List}
+use Rattle.std.specs.Prelude.{◌≡◌, ℤ, Bool, true, List, []}
 use Rattle.std.specs.Prelude.{◌≤ℤ◌, ◌<ℤ◌}
 use Rattle.nf_core.specs.Intervals.{Interval}
 use Rattle.nf_index.specs.declared.rest.Rest.{Rest}
-use Rattle.nf_index.specs.declared.rest.Rest.TheVariants.{Parts, Ends}
+use Rattle.nf_index.specs.declared.rest.Rest.TheVariants.{Nothing, Parts, Ends}
 
 -- the intervals that are left
 abbrev pub left : Rest → List Interval
+left Nothing = []
 left (Parts p) = p
 left (Ends e) = e
 

@@ -1,8 +1,8 @@
-use Rattle.std.proofs.Common.{◌≡◌, true, cond, sym, ap, subst, ◌∙◌, rules}
+use Rattle.std.proofs.Common.{◌≡◌, Bool, true, false, not, cond, refl, ap, subst, ◌∙◌, rules}
 use Rattle.std.specs.Int.{w64}
 use Rattle.std.specs.Int.RustNames.{FitsSigned}
 use Rattle.nf_core.specs.Intervals.{interval_cmp, interval_cmp_total}
-use Rattle.nf_core.specs.Sets.{inserted}
+use Rattle.nf_core.specs.Sets.{has, inserted}
 use Rattle.nf_core.proofs.Public.AscendingLemmas.{insert_key-present}
 use Rattle.nf_core.proofs.Public.NumberLemmas.{i64_fits}
 use Rattle.nf_index.specs.inner.Orders.{IsStored, has_end, is_same_end, times_of, falls}
@@ -10,8 +10,12 @@ use Rattle.nf_index.specs.declared.times.Times.{Times}
 use Rattle.nf_index.proofs.IndexLemmas.{IsIndex-inserted}
 use Rattle.nf_index.proofs.store.Store.insert.Goals as goal
 
-pub returns-then-has-clause-ok : goal.returns-then-has-clause-ok
-returns-then-has-clause-ok c = rw (← c.self.view_is) (insert_key-present interval_cmp interval_cmp_total c.self.inside.begins c.args.interval c.self.invariant.sorted (sym c.has.ensures ∙ c.if-has.true))
+pub returns-in_default-clause-ok : goal.returns-in_default-clause-ok
+returns-in_default-clause-ok c = rw (← c.self.view_is) (insert_key-present interval_cmp interval_cmp_total c.self.inside.begins c.args.interval c.self.invariant.sorted (there (has c.self.inside.begins c.args.interval) c.in_default.ensures.absent))
+  where
+    there : (b : Bool) → false ≡ not b → b ≡ true
+    there true e = refl
+    there false e = e
 
 pub invariant_of-self-in-Ok : goal.invariant_of-self-in-Ok
 invariant_of-self-in-Ok c =
