@@ -1,18 +1,13 @@
--- The held ones of two stores are the minimal ones of both, or all of them where all are held; and what a settled tally asks of the stores.
-use Rattle.std.proofs.Common.{◌≡◌, ℕ, ◌+◌, ◌≤◌, Bool, true, false, not, ◌&&◌, ◌||◌, List, [], ◌∷◌, subst, refl, sym, ap, ◌∙◌, arith}
+-- The held ones of two stores are the minimal ones of both, or all of them where all are held.
+use Rattle.std.proofs.Common.{◌≡◌, Bool, true, false, not, ◌&&◌, ◌||◌, List, [], ◌∷◌, subst, refl, sym, ap, ◌∙◌}
 use Rattle.std.specs.List.{list_any}
-use Rattle.std.specs.List.Sorted.{IsStrictlySortedBy}
-use Rattle.nf_core.specs.Intervals.{Interval, same, is_strictly_inside}
-use Rattle.nf_core.specs.Sets.{IsSet, has, once}
-use Rattle.nf_core.specs.declared.intervals.Delta.{Delta}
-use Rattle.nf_core.proofs.Public.SameIntervalLemmas.{same_is}
-use Rattle.nf_core.proofs.Public.SetLemmas.{none_again, has_filter, has_once, IsSet-once, same_set, any_passes, any_member}
-use Rattle.nf_tally.specs.Numbers.{Numbers, number, often, is_on, IsNet}
-use Rattle.nf_tally.proofs.Public.OftenLemmas.{often-cons}
+use Rattle.nf_core.specs.Intervals.{Interval, is_strictly_inside}
+use Rattle.nf_core.specs.Sets.{has, once}
+use Rattle.nf_core.proofs.Public.SetLemmas.{has_filter, has_once, IsSet-once, same_set, any_passes, any_member}
 use Rattle.nf_model.specs.Pools.{judged, minimal, is_minimal}
 use Rattle.nf_minimal.specs.Minimals.{Minimal, candidates_of, held_of}
 use Rattle.nf_minimal.specs.inner.Barred.{bars, is_barred}
-use Rattle.nf_minimal.specs.inner.Judged.{IsJudged, IsKept, present, once_if}
+use Rattle.nf_minimal.specs.inner.Judged.{IsJudged, IsKept}
 use Rattle.nf_minimal.proofs.BarLemmas.{clash, bars_through}
 use Rattle.nf_minimal.proofs.Public.CandidateLemmas.{has_candidates}
 
@@ -98,61 +93,3 @@ held_is m held suppressed kept = by m.full refl
     by : (b : Bool) → m.full ≡ b → held ≡ judged m.full (candidates_of m)
     by true e = held_full held suppressed (candidates_of m) (subst (λ f. IsJudged f held suppressed) e kept.judged) members ∙ ap (λ f. judged f (candidates_of m)) (sym e)
     by false e = held_minimal held suppressed (candidates_of m) (subst (λ f. IsJudged f held suppressed) e kept.judged) members ∙ ap (λ f. judged f (candidates_of m)) (sym e)
-
--- ---- a sorted list has each interval once
-pub often_set : (is : List Interval) (q : Interval) → IsSet is → often is q ≡ once_if (has is q)
-unfolding IsStrictlySortedBy
-often_set [] q s = refl
-often_set (i ∷ is) q s = often-cons i is q ∙ by (same q i) refl (often_set is q s.1)
-  where
-    by : (b : Bool) → same q i ≡ b → often is q ≡ once_if (has is q) → once_if b + often is q ≡ once_if (b || has is q)
-    by true e rest =
-        let none : has is q ≡ false = ap (has is) (same_is q i e) ∙ none_again i is s in
-        let zero : often is q ≡ 0 = rest ∙ ap once_if none in
-        omega (arith, zero)
-    by false e rest = omega (arith, rest)
-
-once_same : (a b : Bool) → once_if a ≡ once_if b → a ≡ b
-once_same true true e = refl
-once_same true false e = absurd (omega (arith, e))
-once_same false true e = absurd (omega (arith, e))
-once_same false false e = refl
-
--- ---- what came to have a number and what lost its own, against the stores
-module _ (before now : Numbers) (delta : Delta) (held suppressed : List Interval) (net : IsNet (number before) (number now) delta)
-    (members : (q : Interval) → (has held q || has suppressed q) ≡ is_on (number before q)) (q : Interval) where
-  gone_once : often delta.gone q ≡ once_if (is_on (number before q) && not (is_on (number now q)))
-  gone_once = often_set delta.gone q net.gone_set ∙ ap once_if (net.gone q)
-
-  come_once : often delta.come q ≡ once_if (not (is_on (number before q)) && is_on (number now q))
-  come_once = often_set delta.come q net.come_set ∙ ap once_if (net.come q)
-
-  pub gone_there : often delta.gone q ≤ present held suppressed q
-  gone_there =
-      let a = gone_once in
-      let b = ap once_if (members q) in
-      let c = by (is_on (number before q)) (is_on (number now q)) in
-      omega (arith, a, b, c)
-    where
-      by : (b n : Bool) → once_if (b && not n) ≤ once_if b
-      by true true = omega arith
-      by true false = omega arith
-      by false n = omega arith
-
-  pub come_new : (n : ℕ) → n + often delta.gone q ≡ present held suppressed q → n + often delta.come q ≡ once_if (is_on (number now q))
-  come_new n left =
-      let a = gone_once in
-      let b = ap once_if (members q) in
-      let d = come_once in
-      let c = by (is_on (number before q)) (is_on (number now q)) in
-      omega (arith, a, b, c, d, left)
-    where
-      by : (b n : Bool) → once_if b + once_if (not b && n) ≡ once_if n + once_if (b && not n)
-      by true true = refl
-      by true false = refl
-      by false true = refl
-      by false false = refl
-
--- an interval is in a store where it is counted there
-pub members_now : (now : Numbers) (held suppressed : List Interval) (q : Interval) → present held suppressed q ≡ once_if (is_on (number now q)) → (has held q || has suppressed q) ≡ is_on (number now q)
-members_now now held suppressed q e = once_same (has held q || has suppressed q) (is_on (number now q)) e

@@ -4,6 +4,7 @@ mod PresentLemmas
 mod CarryLemmas
 mod MovingLemmas
 mod LeavingLemmas
+mod FurtherLemmas
 mod HeldLemmas
 mod LookupLemmas
 pub mod Public

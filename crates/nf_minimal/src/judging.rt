@@ -1,6 +1,6 @@
 //! Candidates that arrive and leave, and what is held of them.
 
-ghost use Rattle.std.specs.Prelude.{◌≡◌, ℕ, ◌+◌, ◌≤◌, true, false, List, IfOk, OnOk};
+ghost use Rattle.std.specs.Prelude.{◌≡◌, ℕ, ◌+◌, ◌≤◌, ◌||◌, true, false, List, IfOk, OnOk};
 ghost use Rattle.nf_core.specs.Sets.{IsSet, has};
 ghost use Rattle.nf_tally.specs.Numbers.{one_at, often};
 ghost use Rattle.nf_minimal.specs.inner.Barred.{bars};
@@ -23,37 +23,18 @@ pub struct Judging {
 }
 
 impl Judging {
-    ghost use Rattle.nf_minimal.specs.inner.Moves.{Suppresses, GivesWay, Arrives, ArriveAll, Leaves, LeaveAll};
+    ghost use Rattle.nf_minimal.specs.inner.Moves.{Suppresses, GivesWay, Arrives, ArriveAll, Leaves};
 
-    /// Each of a list becomes a candidate.
-    pub fn arrive_all(&mut self, alloc: Global, come: IntervalList) -> Result<(), NoMemory>
-        requires judged { IsJudged self.old.full self.old.held self.old.suppressed }
-        requires new { (q : _) → present self.old.held self.old.suppressed q + often come q ≤ 1 }
-        ensures { OnOk result (ArriveAll come self.old self.new) }
+    /// Whether an interval is a candidate.
+    pub fn has(&self, interval: &Interval) -> bool
+        ensures { result ≡ (has self.now.held interval.now || has self.now.suppressed interval.now) }
     {
-        let mut rest = come.into_vec();
-        while let Some(interval) = rest.pop() {
-            self.arrive(alloc, interval)?;
-        }
-        Ok(())
-    }
-
-    /// None of a list is a candidate any more.
-    pub fn leave_all(&mut self, alloc: Global, gone: IntervalList) -> Result<(), NoMemory>
-        requires judged { IsJudged self.old.full self.old.held self.old.suppressed }
-        requires there { (q : _) → often gone q ≤ present self.old.held self.old.suppressed q }
-        ensures { OnOk result (LeaveAll gone self.old self.new) }
-    {
-        let mut rest = gone.into_vec();
-        while let Some(interval) = rest.pop() {
-            self.leave(alloc, interval)?;
-        }
-        Ok(())
+        self.held.has(interval) || self.suppressed.has(interval)
     }
 
     /// An interval becomes a candidate. It is suppressed where a held one lies strictly inside it; else
     /// it is held, and the held ones strictly around it are suppressed.
-    fn arrive(&mut self, alloc: Global, interval: Interval) -> Result<(), NoMemory>
+    pub fn arrive(&mut self, alloc: Global, interval: Interval) -> Result<(), NoMemory>
         requires judged { IsJudged self.old.full self.old.held self.old.suppressed }
         requires new { present self.old.held self.old.suppressed interval ≡ 0 }
         ensures { OnOk result (Arrives interval self.old self.new) }
@@ -70,7 +51,7 @@ impl Judging {
 
     /// A candidate is none any more. Where it was held, the suppressed ones strictly around it arrive
     /// again.
-    fn leave(&mut self, alloc: Global, interval: Interval) -> Result<(), NoMemory>
+    pub fn leave(&mut self, alloc: Global, interval: Interval) -> Result<(), NoMemory>
         requires judged { IsJudged self.old.full self.old.held self.old.suppressed }
         requires there { present self.old.held self.old.suppressed interval ≡ 1 }
         ensures { OnOk result (Leaves interval self.old self.new) }
@@ -82,6 +63,19 @@ impl Judging {
         let outer = release(self.full, alloc, &mut self.suppressed, &interval)?;
         self.net.leave(interval)?;
         self.arrive_all(alloc, outer)
+    }
+
+    /// Each of a list becomes a candidate.
+    fn arrive_all(&mut self, alloc: Global, come: IntervalList) -> Result<(), NoMemory>
+        requires judged { IsJudged self.old.full self.old.held self.old.suppressed }
+        requires new { (q : _) → present self.old.held self.old.suppressed q + often come q ≤ 1 }
+        ensures { OnOk result (ArriveAll come self.old self.new) }
+    {
+        let mut rest = come.into_vec();
+        while let Some(interval) = rest.pop() {
+            self.arrive(alloc, interval)?;
+        }
+        Ok(())
     }
 
     /// Suppresses the held intervals that another one bars.

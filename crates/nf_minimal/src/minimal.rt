@@ -3,6 +3,7 @@
 ghost use Rattle.std.specs.Prelude.{◌≡◌, ℕ, ◌+◌, ◌≤◌, [], IfOk};
 ghost use Rattle.nf_tally.specs.Numbers.{number, often, is_on};
 
+use crate::counting::Counting;
 use crate::judging::Judging;
 use nf_core::{Delta, Interval, NoMemory};
 use nf_index::Store;
@@ -11,12 +12,13 @@ use std::alloc::Global;
 use std::marker::Model;
 
 /// The candidates of a name, each with the number of its sources, and what is held of them: the
-/// minimal ones, or all of them where `full` says so. Contracts see `full` and the sources (`Minimal`
-/// of specs/Minimals).
+/// minimal ones, or all of them where `full` says so. A candidate stands in a store for its first
+/// source; `more` counts the further ones. Contracts see `full` and the sources (`Minimal` of
+/// specs/Minimals).
 #[derive(Drop)]
 pub struct Minimal {
     full: bool,
-    numbers: Tally,
+    more: Tally,
     held: Store,
     suppressed: Store,
 }
@@ -26,11 +28,12 @@ impl Model for Minimal {
 
     ghost Value = { spec.Minimal };
 
-    ghost use Rattle.nf_minimal.specs.inner.Judged.{IsKept};
+    ghost use Rattle.nf_minimal.specs.inner.Further.{sources_of, IsStocked};
 
-    ghost view = { λ m. record { full = m.full; sources = m.numbers } };
+    ghost view = { λ m.
+        record { full = m.full; sources = sources_of m.more m.held m.suppressed } };
 
-    ghost invariant = { λ m. IsKept m.full m.numbers m.held m.suppressed };
+    ghost invariant = { λ m. IsStocked m.full m.more m.held m.suppressed };
 }
 
 impl Minimal {
@@ -45,7 +48,7 @@ impl Minimal {
     {
         Minimal {
             full,
-            numbers: Tally::new(alloc),
+            more: Tally::new(alloc),
             held: Store::new(alloc),
             suppressed: Store::new(alloc),
         }
@@ -55,7 +58,7 @@ impl Minimal {
     pub fn has_source(&self, interval: &Interval) -> bool
         ensures { result ≡ is_on (number self.now.sources interval.now) }
     {
-        self.numbers.number(interval) > 0
+        self.held.has(interval) || self.suppressed.has(interval)
     }
 
     /// Adds a source for each interval of `come` and takes one away for each of `gone`, as often as it
@@ -71,21 +74,22 @@ impl Minimal {
     {
         let Minimal {
             full,
-            numbers,
+            more,
             held,
             suppressed,
         } = self;
         let Delta { gone, come } = delta;
-        let (numbers, changed) = numbers.settle(alloc, gone.as_slice(), come)?;
-        let mut judging = Judging {
+        let net = Net::new(alloc);
+        let judging = Judging {
             full,
             held,
             suppressed,
-            net: Net::new(alloc),
+            net,
         };
-        let Delta { gone, come } = changed;
-        judging.leave_all(alloc, gone)?;
-        judging.arrive_all(alloc, come)?;
+        let mut counting = Counting { judging, more };
+        counting.gain_all(alloc, come)?;
+        counting.lose_all(alloc, gone)?;
+        let Counting { judging, more } = counting;
         let Judging {
             held,
             suppressed,
@@ -95,7 +99,7 @@ impl Minimal {
         let delta = net.into_delta(alloc)?;
         let minimal = Minimal {
             full,
-            numbers,
+            more,
             held,
             suppressed,
         };

@@ -43,10 +43,3 @@ pub record Leaves (i : Interval) (old new : Judging) : Type 0 where
   pub judged : IsJudged new.full new.held new.suppressed
   pub members : (q : Interval) → present new.held new.suppressed q + one_at i q ≡ present old.held old.suppressed q
   pub net : Carries old.held new.held old.net new.net
-
--- none of a list is one any more
-pub record LeaveAll (is : List Interval) (old new : Judging) : Type 0 where
-  pub full : new.full ≡ old.full
-  pub judged : IsJudged new.full new.held new.suppressed
-  pub members : (q : Interval) → present new.held new.suppressed q + often is q ≡ present old.held old.suppressed q
-  pub net : Carries old.held new.held old.net new.net

@@ -1,0 +1,22 @@
+-- One more gains a source.
+use Rattle.std.proofs.Common.{List, ap, ◌∙◌, arith}
+use Rattle.nf_core.specs.Intervals.{Interval}
+use Rattle.nf_tally.specs.Numbers.{often}
+use Rattle.nf_tally.proofs.Public.OftenLemmas.{often_push}
+use Rattle.nf_minimal.proofs.counting.Counting.gain_all.Goals as goal
+
+pub loop-interval-preserved : goal.loop-interval-preserved
+loop-interval-preserved c =
+    let i = c.in-Some.interval in
+    let before = c.loop-interval.invariant in
+    let step = c.in_ok-gain.ensures in
+    record {
+      full = step.full ∙ before.full;
+      right = step.right;
+      totals = λ q.
+          let rest = ap (λ (is : List Interval). often is q) c.in-Some.ensures.items ∙ often_push c.pop.new.self.items i q in
+          let a = before.totals q in
+          let b = step.totals q in
+          omega (arith, rest, a, b);
+      net = λ was lead. step.net was (before.net was lead);
+    }
