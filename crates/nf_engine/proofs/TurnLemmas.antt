@@ -326,3 +326,28 @@ module _ (plan : Plan) (passage : Passage) (is : IsPassage plan passage) (reader
   pub settled_left : work_left plan passage (rank plan head + 1) new.queue ≡ work_left plan passage (rank plan head + 1) begun.queue
   settled_left =
       same_left plan passage is readers index head named gathered delta begun given new applied.minimal within last applied.full applied.counted applied.leads applied.set rules_same changed_same queue_same recorded
+
+-- ---- where nothing was gathered
+only_nothing : (head n : ℕ) → only_at head no_change n ≡ no_change
+only_nothing head n = by (n == head)
+  where
+    by : (b : Bool) → cond b no_change no_change ≡ no_change
+    by true = refl
+    by false = refl
+
+pub settled_nothing : (plan : Plan) (passage : Passage) (head : ℕ) (gathered : Delta) (round : Round) → gathered ≡ no_change → IsWithin plan passage head gathered round
+    → All (IsDueIn plan (rank plan head + 1)) round.queue → IsBetween plan passage (rank plan head + 1) round
+settled_nothing plan passage head gathered round none within last = record {
+  each_name = within.each_name;
+  each_rule = within.each_rule;
+  full = within.full;
+  sources = λ n known q.
+      let here : only_at head gathered n ≡ no_change = ap (λ d. only_at head d n) none ∙ only_nothing head n in
+      subst (λ (d : Delta). number (minimal_at round.names.items n).sources q + often d.come q
+      ≡ often d.gone q + (one_if (has (of_name passage.now n) q) + found plan (known_to plan passage round.names.items round.queue) n q)) here (within.sources n known q);
+  parts = within.parts;
+  deltas = within.deltas;
+  turned = λ n changed. let before = within.turned n changed in (before.0, omega (arith, before.1));
+  due = last;
+  queued = within.queued;
+}

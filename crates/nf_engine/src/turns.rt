@@ -168,7 +168,7 @@ fn apply_at(
 }
 
 /// Gives what is kept of a name what its rules and inputs lost and gained, and keeps what that made of
-/// its held intervals.
+/// its held intervals; where that is nothing, the name stays as it is.
 pub fn settle(
     alloc: Global,
     plan: &Plan,
@@ -187,6 +187,9 @@ pub fn settle(
     ensures cost { OnOk result (work_left plan.now passage (rank plan.now head + 1) round.new.queue
         ≡ work_left plan.now passage (rank plan.now head + 1) round.old.queue) }
 {
+    if is_nothing(&gathered) {
+        return Ok(());
+    }
     let delta = apply_at(alloc, &mut round.names, head as usize, gathered)?;
     record(plan, readers, round, head, delta)?;
     Ok(())
