@@ -1,4 +1,4 @@
-//! The slow evaluator, event by event, through the bound of its trait.
+//! The two evaluators beside each other, event by event, through the bound of their trait.
 
 ghost use Rattle.std.specs.Prelude.{◌≡◌, ◌<◌, length, IfOk};
 ghost use Rattle.nf_core.specs.Plan.{keys_of};
@@ -11,6 +11,7 @@ use crate::intervals::{cell_of, interval_over, push_cell, times_shown};
 use crate::stopped::{FORM, Stopped};
 use nf_announce::write_held;
 use nf_core::{Change, Interval, NamedList, Plan, Row, Steps};
+use nf_engine::Engine;
 use nf_model::{Inferer, Scratch};
 use std::alloc::Global;
 use std::marker::Brand;
@@ -19,7 +20,7 @@ use std::sync::ledger::{Blank, Ledger};
 /// Events, `NAME TIMES KEY=VALUE ..`, one after the other, and what the heads lose and gain by each;
 /// `write NAME TIMES KEY=VALUE ..`, the announcement lines of that change; `held NAME`, the held intervals
 /// of a name; `shown`, the lines of all held intervals of heads; and `build FIRST & SECOND`, what the first
-/// rule builds.
+/// rule builds. Both evaluators take each row, and where their answers differ both are shown.
 pub fn step_answers(
     alloc: Global,
     given: &Given<'_>,
@@ -43,7 +44,27 @@ fn counted<L: Ledger>(
 {
     let mut steps: Steps<L> = Steps::new(blank);
     let scratch = Scratch::new(alloc, plan, full)?;
-    run(alloc, plan, scratch, rows, &mut steps)
+    let slow = run(alloc, plan, scratch, rows, &mut steps)?;
+    let engine = Engine::new(alloc, plan, full)?;
+    let fast = run(alloc, plan, engine, rows, &mut steps)?;
+    agreed(alloc, slow, fast)
+}
+
+// The answers that two evaluators agree on, and both where they don't.
+fn agreed(
+    alloc: Global,
+    slow: Vec<String>,
+    fast: Vec<String>,
+) -> Result<Vec<String>, Stopped> {
+    let mut found = Vec::new(alloc);
+    for (slow, fast) in slow.into_iter().zip(fast) {
+        if slow == fast {
+            found.push(slow)?;
+        } else {
+            found.push(format!(in alloc; "slow {slow}, by deltas {fast}")?)?;
+        }
+    }
+    Ok(found)
 }
 
 // Takes each row over an evaluator of the plan.
