@@ -11,6 +11,9 @@ use Rattle.nf_cast.specs.declared.rules.Global.{Global}
 use Rattle.nf_cast.specs.declared.rules.Global.TheVariants as g
 use Rattle.nf_cast.specs.declared.rules.Local.{Local}
 use Rattle.nf_cast.specs.declared.rules.Local.TheVariants as l
+pub use Rattle.nf_cast.specs.declared.rules.Seen.{Seen}
+pub use Rattle.nf_cast.specs.declared.rules.Seen.TheVariants.{Global as global, Local as local}
+pub use Rattle.nf_cast.specs.declared.rules.Needs.{Needs}
 use Rattle.nf_cast.specs.declared.placed.PlacedName.{PlacedName}
 
 -- what is known at a place: the objects and functions that are visible; the parameters, locals and loop names that are; how many cells the objects may still take; of the function there its depth of calls so far, whether it is void, and whether its last statement so far is a return; and the first breach before the place
@@ -44,11 +47,6 @@ blame line r b = record b { first = earlier b.first (record { line = line; rule 
 -- what a rule asks at a line is met, or the rule is broken there
 abbrev pub demand : ℕ → CRule → Bool → Step
 demand line r met b = if met then b else blame line r b
-
--- what a visible name stands for
-pub data Seen : Type 0 where
-  global : Global → Seen
-  local : Local → Seen
 
 -- a name of the function, and else an object or a function
 abbrev pub seen_in : Option Local → Option Global → Option Seen
@@ -168,12 +166,6 @@ left n b = record b { locals = take n b.locals }
 -- what a step declares is visible in it alone
 abbrev pub within : Step → Step
 within f b = left (length b.locals) (f b)
-
--- what a program asks of its text: the number of parameters of `nf_event`, and of how many cells `nf_in` and `nf_out` are at least
-pub record Needs : Type 0 where
-  pub params : ℕ
-  pub input : ℕ
-  pub output : ℕ
 
 -- whether a name stands for a function
 abbrev pub has_func : Option Global → Bool

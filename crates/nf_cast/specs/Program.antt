@@ -80,6 +80,14 @@ unfoldable pub contents_of_item : CItem → List Contents
 contents_of_item (item.Object o) = []
 contents_of_item (item.Func f) = contents_of_block f.body ∷ []
 
+-- the limits of objects and functions: those of each function
+abbrev pub KeepsLimits : List CItem → Type 0
+KeepsLimits items = All IsWithinLimits (flat_map contents_of_item items)
+
+-- the heads among some names
+abbrev pub heads_of : List CName → List CName
+heads_of names = filter (λ (n : CName). n.is_head) names
+
 -- the most keys of some names, and 0 of none
 abbrev pub most_keys : List CName → ℕ
 most_keys names = fold max 0 (map (λ (n : CName). length n.keys) names)
@@ -89,7 +97,7 @@ unfoldable pub needs_of : CManifest → Needs
 needs_of m = record {
   params = if m.version == 1 then 2 else 3;
   input = 2 * most_keys m.names;
-  output = 2 * most_keys (filter (λ (n : CName). n.is_head) m.names);
+  output = 2 * most_keys (heads_of m.names);
 }
 
 -- objects and functions keep the rules: none is broken, whatever the lines and the parentheses
@@ -100,5 +108,5 @@ KeepsRules needs items = breach_of needs 0 (map bare_item items) ≡ None
 pub record IsProgram (p : Program) : Type 0 where
   pub manifest : IsManifest p.manifest
   pub spelled : IsSpelled p.items
-  pub limits : All IsWithinLimits (flat_map contents_of_item p.items)
+  pub limits : KeepsLimits p.items
   pub rules : KeepsRules (needs_of p.manifest) p.items

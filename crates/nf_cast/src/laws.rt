@@ -4,7 +4,7 @@ ghost use Rattle.std.specs.Prelude.{◌≡◌, ℕ, List, map, true};
 ghost use Rattle.std.specs.List.{list_all};
 ghost use Rattle.nf_cast.specs.declared.placed.PlacedItem.{PlacedItem};
 ghost use Rattle.nf_cast.specs.Placed.{strip_item, is_straight};
-ghost use Rattle.nf_cast.specs.Book.{Needs};
+ghost use Rattle.nf_cast.specs.declared.rules.Needs.{Needs};
 ghost use Rattle.nf_cast.specs.Rules.{breach_of};
 ghost use Rattle.nf_cast.specs.Program.{KeepsRules};
 

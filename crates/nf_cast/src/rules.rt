@@ -42,3 +42,19 @@ pub enum Local {
     Constant,
     Loop,
 }
+
+/// What a visible name stands for.
+#[derive(Debug, Clone, Copy, PartialEq, Eq)]
+pub enum Seen {
+    Global(Global),
+    Local(Local),
+}
+
+/// What a program asks of its text: the number of parameters of `nf_event`, and of how many cells `nf_in`
+/// and `nf_out` are at least.
+#[derive(Debug, Clone, Copy, PartialEq, Eq)]
+pub struct Needs {
+    pub params: u64,
+    pub input: u64,
+    pub output: u64,
+}
