@@ -1,0 +1,40 @@
+//! What a token is to the grammar.
+
+/// A kind of tokens that the grammar tells apart: identifiers, literals, each word and each mark. Which
+/// token is of which kind is said by `piece_of` in specs/Pieces.antt.
+#[derive(Debug, Clone, Copy, PartialEq, Eq)]
+pub enum Sym {
+    Ident,
+    Lit,
+    Static,
+    Void,
+    Const,
+    Int64,
+    If,
+    Else,
+    For,
+    Return,
+    Open,
+    Close,
+    OpenBrace,
+    CloseBrace,
+    OpenBracket,
+    CloseBracket,
+    Comma,
+    Semicolon,
+    Equal,
+    Plus,
+    Minus,
+    Star,
+    Slash,
+    Percent,
+    Less,
+    LessEqual,
+    Greater,
+    GreaterEqual,
+    EqualEqual,
+    NotEqual,
+    Bang,
+    And,
+    Or,
+}
