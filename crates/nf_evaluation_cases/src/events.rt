@@ -51,11 +51,7 @@ fn counted<L: Ledger>(
 }
 
 // The answers that two evaluators agree on, and both where they don't.
-fn agreed(
-    alloc: Global,
-    slow: Vec<String>,
-    fast: Vec<String>,
-) -> Result<Vec<String>, Stopped> {
+fn agreed(alloc: Global, slow: Vec<String>, fast: Vec<String>) -> Result<Vec<String>, Stopped> {
     let mut found = Vec::new(alloc);
     for (slow, fast) in slow.into_iter().zip(fast) {
         if slow == fast {
