@@ -1,4 +1,4 @@
--- Both of two tests, neither, and the answers of a choice.
+-- Both of two tests, either, neither, and the answers of a choice.
 use Rattle.std.proofs.Common.{◌≡◌, Bool, true, false, ◌&&◌, ◌||◌, cond, Some, None, refl}
 
 pub both : (a b : Bool) → (a && b) ≡ true → (a ≡ true) × (b ≡ true)
@@ -10,6 +10,26 @@ pub neither : (a b : Bool) → (a || b) ≡ false → (a ≡ false) × (b ≡ fa
 neither true b e = cc
 neither false true e = cc
 neither false false e = (refl, refl)
+
+pub and_false : (b : Bool) → (b && false) ≡ false
+and_false true = refl
+and_false false = refl
+
+pub and_true : (b : Bool) → (b && true) ≡ b
+and_true true = refl
+and_true false = refl
+
+-- of three tests the first two may change places
+pub or_swapped : (a b c : Bool) → (a || (b || c)) ≡ (b || (a || c))
+or_swapped true true c = refl
+or_swapped true false c = refl
+or_swapped false true c = refl
+or_swapped false false c = refl
+
+-- a test that is made twice
+pub or_once : (a b : Bool) → (a || b) ≡ (a || (a || b))
+or_once true b = refl
+or_once false b = refl
 
 -- the two answers of a choice
 pub choose_first : {A : Type 0} (b : Bool) (x y : A) → b ≡ true → cond b x y ≡ x
