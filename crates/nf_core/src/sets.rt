@@ -3,21 +3,21 @@
 ghost use Rattle.std.specs.Prelude.{◌≡◌, [], ◌∷◌, length, not, filter, IfSome, IfNone, IfOk, OnOk, OnErr};
 ghost use Rattle.std.specs.Option.{is_some};
 ghost use Rattle.std.specs.Iterator.{YieldsFirstRef, YieldsLastRef, item_count};
-ghost use Rattle.std.specs.BTreeMap.Range.{IsLeBy, IsLtBy, range_contains};
+ghost use Rattle.std.specs.BTreeMap.Range.{range_contains};
 ghost use Rattle.nf_core.specs.Intervals.{interval_cmp};
 ghost use Rattle.nf_core.specs.Sets.{IsSet, has, inserted, removed};
 
 use crate::errors::NoMemory;
 use crate::intervals::Interval;
+use nf_blocks::{BlockSet, Walk};
 use std::alloc::Global;
-use std::collections::{BTreeSet, btree_set};
 use std::marker::Model;
 use std::ops::RangeBounds;
 
 /// A sorted list of intervals, each once. Contracts see that list.
 #[derive(Debug, Drop)]
 pub struct IntervalSet {
-    set: BTreeSet<Interval>,
+    set: BlockSet<Interval>,
 }
 
 impl Model for IntervalSet {
@@ -28,9 +28,9 @@ impl Model for IntervalSet {
 
     ghost use Rattle.nf_core.specs.Sets.{IsSet};
 
-    ghost view = { λ s. s.set.keys };
+    ghost view = { λ s. s.set };
 
-    ghost invariant = { λ s. IsSet s.set.keys };
+    ghost invariant = { λ s. IsSet s.set };
 }
 
 impl IntervalSet {
@@ -39,7 +39,7 @@ impl IntervalSet {
         ensures { result ≡ [] }
     {
         IntervalSet {
-            set: BTreeSet::new(alloc),
+            set: BlockSet::new(alloc),
         }
     }
 
@@ -106,7 +106,6 @@ impl IntervalSet {
 
     /// The intervals between two bounds, as borrowed, ascending, from either end. Takes no memory.
     pub fn range<R: RangeBounds<Interval> + Drop>(&self, range: R) -> Part<'_>
-        requires { R.is_forward range (IsLeBy interval_cmp) (IsLtBy interval_cmp) }
         ensures between { R.has_bounds range → result ≡ filter
             (range_contains interval_cmp (R.start_bound range) (R.end_bound range)) self.now }
         ensures sorted { IsSet self.now }
@@ -121,7 +120,7 @@ impl IntervalSet {
 /// left.
 #[derive(Drop)]
 pub struct Held<'a> {
-    rest: btree_set::Iter<'a, Interval>,
+    rest: Walk<'a, Interval>,
 }
 
 impl<'a> Model for Held<'a> {
@@ -149,7 +148,7 @@ impl<'a> Iterator for Held<'a> {
 /// the intervals that are left.
 #[derive(Drop)]
 pub struct Part<'a> {
-    rest: btree_set::Range<'a, Interval>,
+    rest: Walk<'a, Interval>,
 }
 
 impl<'a> Model for Part<'a> {

@@ -11,18 +11,11 @@ use Rattle.std.proofs.lemmas.List.Folds.{list_any_none, list_any-append}
 use Rattle.std.proofs.lemmas.List.Kept.{IsStrictlySortedBy-filter}
 use Rattle.std.proofs.lemmas.Map.Lookups.{btree_set_from_contains}
 use Rattle.std.proofs.lemmas.Map.Views.{All-remove_key}
+use Rattle.nf_lemmas.proofs.BoolLemmas.{and_false, and_true, or_swapped, or_once}
 use Rattle.nf_core.specs.Intervals.{Interval, interval_cmp, interval_cmp_total, same}
 use Rattle.nf_core.specs.Sets.{IsSet, has, inserted, removed, once}
 use Rattle.nf_core.proofs.Public.AscendingLemmas.{IsStrictlySortedBy-fold}
 use Rattle.nf_core.proofs.Public.SameIntervalLemmas.{exact_interval, same_is, same_self}
-
-and_false : (b : Bool) → (b && false) ≡ false
-and_false true = refl
-and_false false = refl
-
-and_true : (b : Bool) → (b && true) ≡ b
-and_true true = refl
-and_true false = refl
 
 and_swapped : (a b : Bool) → (a && b) ≡ (b && a)
 and_swapped true true = refl
@@ -30,19 +23,9 @@ and_swapped true false = refl
 and_swapped false true = refl
 and_swapped false false = refl
 
-or_swapped : (a b c : Bool) → (a || (b || c)) ≡ (b || (a || c))
-or_swapped true true c = refl
-or_swapped true false c = refl
-or_swapped false true c = refl
-or_swapped false false c = refl
-
 or_true : (a b : Bool) → b ≡ true → (a || b) ≡ true
 or_true true b h = refl
 or_true false b h = h
-
-or_once : (a b : Bool) → (a || b) ≡ (a || (a || b))
-or_once true b = refl
-or_once false b = refl
 
 -- ---- members
 -- an interval that is entered is there, besides those that were

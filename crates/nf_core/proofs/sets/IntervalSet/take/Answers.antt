@@ -10,4 +10,4 @@ the_same None i equal = tt
 the_same (Some k) i equal = sym (exact_interval i k equal)
 
 pub returns-clause-itself : goal.returns-clause-itself
-returns-clause-itself c = the_same c.take.result c.args.interval.now c.take.ensures.same_key
+returns-clause-itself c = the_same c.take.result c.args.interval.now c.take.ensures.itself
