@@ -1,17 +1,18 @@
 -- The first times of a part of the order by end, and the place that they lead to.
 use Rattle.std.proofs.Common.{◌≡◌, ℤ, ℕ, Bool, true, false, cond, ◌||◌, List, [], ◌∷◌, filter, Option, Some, None, refl, sym, ap, subst, ◌∙◌, true≢false, arith, Bor}
-use Rattle.std.specs.Prelude.{◌≤ℤ◌, ◌<ℤ◌, int_le, int_lt}
+use Rattle.std.specs.Prelude.{◌≤ℤ◌, ◌<ℤ◌, int_le, int_lt, IfSome}
 use Rattle.std.specs.declared.cmp.Ordering.{Ordering}
 use Rattle.std.specs.declared.cmp.Ordering.TheVariants.{Less, Equal, Greater}
-use Rattle.std.specs.Ordering.{is_eq, is_lt, is_le, ordering_reverse}
+use Rattle.std.specs.Ordering.{is_eq, is_gt, is_le, ordering_reverse}
 use Rattle.std.specs.Option.{option_copied}
-use Rattle.std.specs.Iterator.{YieldsFirstRef}
+use Rattle.std.specs.Iterator.{YieldsFirstRef, YieldsLastRef}
 use Rattle.std.specs.List.{AllByRecursion}
 use Rattle.std.specs.List.Sorted.{IsStrictlySortedBy}
 use Rattle.std.proofs.lemmas.Int.{ints}
 use Rattle.nf_core.specs.Intervals.{Interval}
 use Rattle.nf_core.specs.Sets.{has}
 use Rattle.nf_core.proofs.Public.SetLemmas.{any_passes, any_member}
+use Rattle.nf_blocks.proofs.Public.HasLemmas.{last_is_most}
 use Rattle.nf_index.specs.declared.times.Times.{Times}
 use Rattle.nf_index.specs.inner.Orders.{times_cmp, times_of, has_times, has_end, is_same_end, reached, IsStored, AreStored, IsIndex, IsEnd, IsPart, IsPlace}
 use Rattle.nf_index.proofs.IndexLemmas.{same_end_is, times_cmp_total}
@@ -143,17 +144,14 @@ pub after_upward : (time : ℤ) (t u : Times) → int_lt time t.stop ≡ true �
 after_upward time t u e f = grind (arith, ints, e, f)
 
 -- ---- the latest end
--- what isn't after the last times doesn't end after them
-no_later : (last t : Times) → is_lt (times_cmp last t) ≡ false → t.stop ≤ℤ last.stop
+-- what isn't past the last times doesn't end after them
+no_later : (last t : Times) → is_gt (times_cmp t last) ≡ false → t.stop ≤ℤ last.stop
 no_later last t e = grind (arith, ints, e)
 
-pub latest_end : (last : Times) (ends : List Times) → AllByRecursion (λ t. is_lt (times_cmp last t) ≡ false) ends → (t : Times) → has_end ends t ≡ true → t.stop ≤ℤ last.stop
-latest_end last [] all t there = absurd (true≢false (sym there))
-latest_end last (x ∷ xs) all t there = by (is_same_end t x) refl (latest_end last xs all.1 t)
-  where
-    by : (b : Bool) → is_same_end t x ≡ b → (has_end xs t ≡ true → t.stop ≤ℤ last.stop) → t.stop ≤ℤ last.stop
-    by true e rest = subst (λ u. u.stop ≤ℤ last.stop) (sym (same_end_is t x e)) (no_later last x all.0)
-    by false e rest = rest (sym (ap (λ b. b || has_end xs t) e) ∙ there)
+pub latest_end : (ends walked front : List Times) (r : Option (Bor Times)) → IsStrictlySortedBy times_cmp ends → walked ≡ ends → YieldsLastRef (λ ts. ts) walked r front
+    → IfSome (option_copied r) (λ last. (t : Times) → has_end ends t ≡ true → t.stop ≤ℤ last.stop)
+latest_end ends walked front None s e y = tt
+latest_end ends walked front (Some last) s e y = λ t there. no_later last.now t (last_is_most times_cmp_total ends front last.now t s (sym e ∙ y) there)
 
 -- so from later times on there is no interval
 pub past_from : (is : List Interval) (ends : List Times) (time latest : ℤ) → IsIndex is ends 0 → ((t : Times) → has_end ends t ≡ true → t.stop ≤ℤ latest) → latest <ℤ time

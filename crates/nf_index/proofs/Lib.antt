@@ -1,6 +1,7 @@
 pub mod PlaceLemmas
 pub mod FallLemmas
 pub mod IndexLemmas
+pub mod EndLemmas
 pub mod WindowLemmas
 pub mod AscentLemmas
 pub mod FirstEndLemmas

@@ -9,13 +9,13 @@ ghost use Rattle.nf_index.specs.declared.times.Times as spec_times;
 ghost use Rattle.nf_index.specs.inner.Orders.{IsIndex, IsPart, IsPlace, has_end, reached, times_cmp};
 
 use crate::times::Times;
-use std::collections::{BTreeSet, btree_set};
+use nf_blocks::{BlockSet, Walk};
 use std::ops::Bound;
 
 /// The times that end before a time. Takes no memory.
-pub fn ends_before<'a>(ends: &'a BTreeSet<Times>, time: &i64) -> btree_set::Range<'a, Times>
-    ensures part { IsPart (λ t. int_lt t.stop time.now) ends.now.keys result }
-    ensures sorted { IsStrictlySortedBy times_cmp ends.now.keys }
+pub fn ends_before<'a>(ends: &'a BlockSet<Times>, time: &i64) -> Walk<'a, Times>
+    ensures part { IsPart (λ t. int_lt t.stop time.now) ends.now result }
+    ensures sorted { IsStrictlySortedBy times_cmp ends.now }
 {
     ends.range(
         ..Times {
@@ -26,9 +26,9 @@ pub fn ends_before<'a>(ends: &'a BTreeSet<Times>, time: &i64) -> btree_set::Rang
 }
 
 /// The times that end at a time. Takes no memory.
-pub fn ends_at<'a>(ends: &'a BTreeSet<Times>, time: &i64) -> btree_set::Range<'a, Times>
-    ensures part { IsPart (λ t. int_eq t.stop time.now) ends.now.keys result }
-    ensures sorted { IsStrictlySortedBy times_cmp ends.now.keys }
+pub fn ends_at<'a>(ends: &'a BlockSet<Times>, time: &i64) -> Walk<'a, Times>
+    ensures part { IsPart (λ t. int_eq t.stop time.now) ends.now result }
+    ensures sorted { IsStrictlySortedBy times_cmp ends.now }
 {
     let first = Times {
         stop: *time,
@@ -42,9 +42,9 @@ pub fn ends_at<'a>(ends: &'a BTreeSet<Times>, time: &i64) -> btree_set::Range<'a
 }
 
 /// The times that end at a time or later. Takes no memory.
-pub fn ends_from<'a>(ends: &'a BTreeSet<Times>, time: &i64) -> btree_set::Range<'a, Times>
-    ensures part { IsPart (λ t. int_le time.now t.stop) ends.now.keys result }
-    ensures sorted { IsStrictlySortedBy times_cmp ends.now.keys }
+pub fn ends_from<'a>(ends: &'a BlockSet<Times>, time: &i64) -> Walk<'a, Times>
+    ensures part { IsPart (λ t. int_le time.now t.stop) ends.now result }
+    ensures sorted { IsStrictlySortedBy times_cmp ends.now }
 {
     let first = Times {
         stop: *time,
@@ -54,9 +54,9 @@ pub fn ends_from<'a>(ends: &'a BTreeSet<Times>, time: &i64) -> btree_set::Range<
 }
 
 /// The times that end after a time. Takes no memory.
-pub fn ends_after<'a>(ends: &'a BTreeSet<Times>, time: &i64) -> btree_set::Range<'a, Times>
-    ensures part { IsPart (λ t. int_lt time.now t.stop) ends.now.keys result }
-    ensures sorted { IsStrictlySortedBy times_cmp ends.now.keys }
+pub fn ends_after<'a>(ends: &'a BlockSet<Times>, time: &i64) -> Walk<'a, Times>
+    ensures part { IsPart (λ t. int_lt time.now t.stop) ends.now result }
+    ensures sorted { IsStrictlySortedBy times_cmp ends.now }
 {
     let last = Times {
         stop: *time,
@@ -66,20 +66,19 @@ pub fn ends_after<'a>(ends: &'a BTreeSet<Times>, time: &i64) -> btree_set::Range
 }
 
 // The latest of some ends, None where there is none. Takes no memory.
-fn latest(ends: &BTreeSet<Times>) -> Option<Times>
+fn latest(ends: &BlockSet<Times>) -> Option<Times>
     ensures { IfSome result (λ last. (t : spec_times.Times) →
-        has_end ends.now.keys t ≡ true → t.stop ≤ℤ last.stop) }
+        has_end ends.now t ≡ true → t.stop ≤ℤ last.stop) }
 {
-    let last = ends.last()?;
-    Some(*last)
+    ends.iter().next_back().copied()
 }
 
 /// The place of the first interval that ends at a time or later, where ends fall nowhere. Takes no
 /// memory.
-pub fn end_from(ends: &BTreeSet<Times>, time: &i64) -> Option<Times>
+pub fn end_from(ends: &BlockSet<Times>, time: &i64) -> Option<Times>
     ensures place { (is : List spec.Interval) (n : ℕ) →
-        IsIndex is ends.now.keys n → IsPlace result }
-    ensures is { (is : List spec.Interval) → IsIndex is ends.now.keys 0 →
+        IsIndex is ends.now n → IsPlace result }
+    ensures is { (is : List spec.Interval) → IsIndex is ends.now 0 →
         (i : spec.Interval) → has is i ≡ true → reached result i ≡ int_le time.now i.stop }
 {
     match latest(ends) {
@@ -89,10 +88,10 @@ pub fn end_from(ends: &BTreeSet<Times>, time: &i64) -> Option<Times>
 }
 
 /// The place of the first interval that ends after a time, where ends fall nowhere. Takes no memory.
-pub fn end_after(ends: &BTreeSet<Times>, time: &i64) -> Option<Times>
+pub fn end_after(ends: &BlockSet<Times>, time: &i64) -> Option<Times>
     ensures place { (is : List spec.Interval) (n : ℕ) →
-        IsIndex is ends.now.keys n → IsPlace result }
-    ensures is { (is : List spec.Interval) → IsIndex is ends.now.keys 0 →
+        IsIndex is ends.now n → IsPlace result }
+    ensures is { (is : List spec.Interval) → IsIndex is ends.now 0 →
         (i : spec.Interval) → has is i ≡ true → reached result i ≡ int_lt time.now i.stop }
 {
     match latest(ends) {

@@ -1,6 +1,6 @@
 //! Which part of a store a window needs: the walk that loses nothing of it.
 
-ghost use Rattle.std.specs.Prelude.{◌≡◌, ◌≤ℤ◌, ◌<ℤ◌, ◌++◌, Bool, List, true, false, filter};
+ghost use Rattle.std.specs.Prelude.{◌≡◌, ◌≤ℤ◌, ◌<ℤ◌, ◌++◌, Bool, List, true, false, filter, int_lt};
 ghost use Rattle.std.specs.Ordering.{int_eq};
 ghost use Rattle.nf_core.specs.Intervals as spec;
 ghost use Rattle.nf_core.specs.Sets.{has};
@@ -12,9 +12,9 @@ use crate::ends::{end_after, end_from, ends_after, ends_at, ends_before, ends_fr
 use crate::rest::{Ends, Parts, Rest, next_in};
 use crate::times::{Times, after_times, begin_after, begin_from, between, with_times};
 use crate::windows::Window;
+use nf_blocks::{BlockSet, Walk};
 use nf_core::IntervalSet;
 use std::alloc::Global;
-use std::collections::{BTreeSet, btree_set};
 
 // The intervals from one place to before another one.
 fn part<'a>(
@@ -65,11 +65,7 @@ fn run<'a>(
 }
 
 // The intervals with given times, one of these after the other.
-fn by_end<'a>(
-    alloc: Global,
-    begins: &'a IntervalSet,
-    times: btree_set::Range<'a, Times>,
-) -> Rest<'a>
+fn by_end<'a>(alloc: Global, begins: &'a IntervalSet, times: Walk<'a, Times>) -> Rest<'a>
     requires stored { AreStored begins.now }
     requires order { AreInOrder times }
     ensures { left result ≡ by_times begins.now times.entry }
@@ -99,9 +95,9 @@ fn at<'a>(alloc: Global, begins: &'a IntervalSet, times: &Times) -> Rest<'a>
 }
 
 // A place that no interval that ends at a time or before is at or after.
-fn past_ends(ends: &BTreeSet<Times>, falls: usize, time: &i64) -> Option<Times>
-    ensures place { (is : List spec.Interval) → IsIndex is ends.now.keys falls → IsPlace result }
-    ensures past { (is : List spec.Interval) → IsIndex is ends.now.keys falls →
+fn past_ends(ends: &BlockSet<Times>, falls: usize, time: &i64) -> Option<Times>
+    ensures place { (is : List spec.Interval) → IsIndex is ends.now falls → IsPlace result }
+    ensures past { (is : List spec.Interval) → IsIndex is ends.now falls →
         (i : spec.Interval) → has is i ≡ true → i.stop ≤ℤ time.now → reached result i ≡ false }
 {
     if falls == 0 {
@@ -116,12 +112,12 @@ fn past_ends(ends: &BTreeSet<Times>, falls: usize, time: &i64) -> Option<Times>
 pub fn within<'a>(
     alloc: Global,
     begins: &'a IntervalSet,
-    ends: &'a BTreeSet<Times>,
+    ends: &'a BlockSet<Times>,
     falls: usize,
     times: &Times,
     strictly: bool,
 ) -> Rest<'a>
-    requires index { IsIndex begins.now ends.now.keys falls }
+    requires index { IsIndex begins.now ends.now falls }
     ensures { (w : spec.Interval → Bool) → IsWithin w times.now.start times.now.stop
         → IsApart strictly w times.now → Covers w begins.now (left result) }
 {
@@ -137,12 +133,12 @@ pub fn within<'a>(
 pub fn around<'a>(
     alloc: Global,
     begins: &'a IntervalSet,
-    ends: &'a BTreeSet<Times>,
+    ends: &'a BlockSet<Times>,
     falls: usize,
     times: &Times,
     strictly: bool,
 ) -> Rest<'a>
-    requires index { IsIndex begins.now ends.now.keys falls }
+    requires index { IsIndex begins.now ends.now falls }
     ensures { (w : spec.Interval → Bool) → IsAround w times.now.start times.now.stop
         → IsApart strictly w times.now → Covers w begins.now (left result) }
 {
@@ -158,11 +154,11 @@ pub fn around<'a>(
 pub fn overlapping<'a>(
     alloc: Global,
     begins: &'a IntervalSet,
-    ends: &'a BTreeSet<Times>,
+    ends: &'a BlockSet<Times>,
     falls: usize,
     times: &Times,
 ) -> Rest<'a>
-    requires index { IsIndex begins.now ends.now.keys falls }
+    requires index { IsIndex begins.now ends.now falls }
     ensures { (w : spec.Interval → Bool) → IsOverlapping w times.now.start times.now.stop
         → Covers w begins.now (left result) }
 {
@@ -171,6 +167,48 @@ pub fn overlapping<'a>(
     }
     let low = end_after(ends, &times.start);
     let high = begin_from(&times.stop);
+    part(alloc, begins, &low, &high)
+}
+
+// The intervals that end before a time.
+fn ending_before<'a>(
+    alloc: Global,
+    begins: &'a IntervalSet,
+    ends: &'a BlockSet<Times>,
+    falls: usize,
+    time: &i64,
+) -> Rest<'a>
+    requires index { IsIndex begins.now ends.now falls }
+    ensures { (w : spec.Interval → Bool)
+        → ((i : spec.Interval) → w i ≡ true → int_lt i.stop time.now ≡ true)
+        → Covers w begins.now (left result) }
+{
+    if falls != 0 {
+        return by_end(alloc, begins, ends_before(ends, time));
+    }
+    let low = begin_from(&i64::MIN);
+    let high = end_from(ends, time);
+    part(alloc, begins, &low, &high)
+}
+
+// The intervals that end at a time.
+fn ending_at<'a>(
+    alloc: Global,
+    begins: &'a IntervalSet,
+    ends: &'a BlockSet<Times>,
+    falls: usize,
+    time: &i64,
+) -> Rest<'a>
+    requires index { IsIndex begins.now ends.now falls }
+    ensures { (w : spec.Interval → Bool)
+        → ((i : spec.Interval) → w i ≡ true → int_eq i.stop time.now ≡ true)
+        → Covers w begins.now (left result) }
+{
+    if falls != 0 {
+        return by_end(alloc, begins, ends_at(ends, time));
+    }
+    let low = end_from(ends, time);
+    let high = end_after(ends, time);
     part(alloc, begins, &low, &high)
 }
 
@@ -189,21 +227,21 @@ fn begins_at<'a>(alloc: Global, begins: &'a IntervalSet, time: &i64) -> Rest<'a>
 pub fn walk_of<'a>(
     alloc: Global,
     begins: &'a IntervalSet,
-    ends: &'a BTreeSet<Times>,
+    ends: &'a BlockSet<Times>,
     falls: usize,
     window: Window,
     times: &Times,
 ) -> Rest<'a>
-    requires index { IsIndex begins.now ends.now.keys falls }
+    requires index { IsIndex begins.now ends.now falls }
     ensures { Covers (in_window window times.now.start times.now.stop) begins.now (left result) }
 {
     match window {
         Window::BeginsAfter => part(alloc, begins, &begin_after(&times.stop), &None),
         Window::BeginsAtEnd => begins_at(alloc, begins, &times.stop),
         Window::SameBegin => begins_at(alloc, begins, &times.start),
-        Window::EndsBefore => by_end(alloc, begins, ends_before(ends, &times.start)),
-        Window::EndsAtBegin => by_end(alloc, begins, ends_at(ends, &times.start)),
-        Window::SameEnd => by_end(alloc, begins, ends_at(ends, &times.stop)),
+        Window::EndsBefore => ending_before(alloc, begins, ends, falls, &times.start),
+        Window::EndsAtBegin => ending_at(alloc, begins, ends, falls, &times.start),
+        Window::SameEnd => ending_at(alloc, begins, ends, falls, &times.stop),
         Window::SameTimes => at(alloc, begins, times),
         Window::Within => within(alloc, begins, ends, falls, times, false),
         Window::StrictlyWithin => within(alloc, begins, ends, falls, times, true),

@@ -6,9 +6,9 @@ ghost use Rattle.nf_index.specs.inner.Orders.{or_none};
 ghost use Rattle.nf_index.specs.inner.Walks.{left};
 
 use crate::times::{Times, with_times};
+use nf_blocks::Walk;
 use nf_core::{Interval, IntervalSet, Part};
 use std::alloc::Global;
-use std::collections::btree_set;
 use std::marker::Model;
 
 /// The next interval of a part, where there is one. Takes no memory.
@@ -61,7 +61,7 @@ pub struct Ends<'a> {
     pub(crate) alloc: Global,
     pub(crate) begins: &'a IntervalSet,
     pub(crate) part: Option<Part<'a>>,
-    pub(crate) times: btree_set::Range<'a, Times>,
+    pub(crate) times: Walk<'a, Times>,
 }
 
 impl<'a> Model for Ends<'a> {

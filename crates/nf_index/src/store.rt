@@ -16,9 +16,9 @@ use crate::relations::{Rel, Which};
 use crate::rest::next_in;
 use crate::times::{Times, own_times, with_times};
 use crate::windows::window_of;
+use nf_blocks::BlockSet;
 use nf_core::{Held, Interval, IntervalSet, NoMemory};
 use std::alloc::Global;
-use std::collections::BTreeSet;
 use std::marker::Model;
 
 /// The intervals of one name, each once, in two orders.
@@ -26,7 +26,7 @@ use std::marker::Model;
 pub struct Store {
     alloc: Global,
     begins: IntervalSet,
-    ends: BTreeSet<Times>,
+    ends: BlockSet<Times>,
     falls: usize,
 }
 
@@ -40,7 +40,7 @@ impl Model for Store {
 
     ghost view = { λ s. s.begins };
 
-    ghost invariant = { λ s. IsIndex s.begins s.ends.keys s.falls };
+    ghost invariant = { λ s. IsIndex s.begins s.ends s.falls };
 }
 
 impl Store {
@@ -51,7 +51,7 @@ impl Store {
         Store {
             alloc,
             begins: IntervalSet::new(alloc),
-            ends: BTreeSet::new(alloc),
+            ends: BlockSet::new(alloc),
             falls: 0,
         }
     }
@@ -190,9 +190,9 @@ impl Store {
 }
 
 // Takes times out of the order by end if they are to go. Takes no memory.
-fn leave(ends: &mut BTreeSet<Times>, times: &Times, goes: bool)
-    ensures { (t : declared.Times) → has_end ends.new.keys t
-        ≡ (has_end ends.old.keys t && not (goes && is_same_end times.now t)) }
+fn leave(ends: &mut BlockSet<Times>, times: &Times, goes: bool)
+    ensures { (t : declared.Times) → has_end ends.new t
+        ≡ (has_end ends.old t && not (goes && is_same_end times.now t)) }
 {
     if goes {
         ends.remove(times);
@@ -204,13 +204,13 @@ fn leave(ends: &mut BTreeSet<Times>, times: &Times, goes: bool)
 fn taken(
     alloc: Global,
     begins: &IntervalSet,
-    ends: &mut BTreeSet<Times>,
+    ends: &mut BlockSet<Times>,
     falls: usize,
     interval: &Interval,
 ) -> usize
-    requires index { IsIndex (inserted interval.now begins.now) ends.old.keys falls }
+    requires index { IsIndex (inserted interval.now begins.now) ends.old falls }
     requires absent { has begins.now interval.now ≡ false }
-    ensures { IsIndex begins.now ends.new.keys result }
+    ensures { IsIndex begins.now ends.new result }
 {
     let times = own_times(interval);
     let mut others = with_times(alloc, begins, &times);

@@ -2,7 +2,7 @@ use Rattle.std.proofs.Common.{refl, ◌∙◌, None}
 use Rattle.nf_index.specs.inner.Windows.{in_window}
 use Rattle.nf_index.specs.declared.windows.Window.TheVariants.{BeginsAfter, BeginsAtEnd, EndsBefore, EndsAtBegin, SameBegin, SameEnd, SameTimes, Within, Around, StrictlyWithin, StrictlyAround, Overlaps}
 use Rattle.nf_index.proofs.AskLemmas.{within_asks, around_asks, overlaps_asks, strictly_within_asks, strictly_around_asks, strictly_within_apart, strictly_around_apart, not_strictly, same_times_asks}
-use Rattle.nf_index.proofs.WalkLemmas.{covers_part, covers_ends, between_is, AreInOrder-part}
+use Rattle.nf_index.proofs.WalkLemmas.{covers_part, between_is}
 use Rattle.nf_index.proofs.plans.walk_of.Goals as goal
 
 pub returns-in-BeginsAfter : goal.returns-in-BeginsAfter
@@ -20,18 +20,15 @@ returns-in-SameBegin c = rw c.in-SameBegin.is (c.begins_at-in-SameBegin.ensures 
 
 pub returns-in-EndsBefore : goal.returns-in-EndsBefore
 unfolding in_window
-returns-in-EndsBefore c =
-    rw c.in-EndsBefore.is (covers_ends (in_window EndsBefore c.args.times.now.start c.args.times.now.stop) c.args.begins.now c.args.ends.now.keys c.ends_before.result c.args.falls _ _ c.requires.index c.ends_before.ensures.sorted c.ends_before.ensures.part c.by_end.ensures (λ i there h. h))
+returns-in-EndsBefore c = rw c.in-EndsBefore.is (c.ending_before.ensures (in_window EndsBefore c.args.times.now.start c.args.times.now.stop) (λ i h. h))
 
 pub returns-in-EndsAtBegin : goal.returns-in-EndsAtBegin
 unfolding in_window
-returns-in-EndsAtBegin c =
-    rw c.in-EndsAtBegin.is (covers_ends (in_window EndsAtBegin c.args.times.now.start c.args.times.now.stop) c.args.begins.now c.args.ends.now.keys c.ends_at.result c.args.falls _ _ c.requires.index c.ends_at.ensures.sorted c.ends_at.ensures.part c.by_end-in-EndsAtBegin.ensures (λ i there h. h))
+returns-in-EndsAtBegin c = rw c.in-EndsAtBegin.is (c.ending_at.ensures (in_window EndsAtBegin c.args.times.now.start c.args.times.now.stop) (λ i h. h))
 
 pub returns-in-SameEnd : goal.returns-in-SameEnd
 unfolding in_window
-returns-in-SameEnd c =
-    rw c.in-SameEnd.is (covers_ends (in_window SameEnd c.args.times.now.start c.args.times.now.stop) c.args.begins.now c.args.ends.now.keys c.ends_at-in-SameEnd.result c.args.falls _ _ c.requires.index c.ends_at-in-SameEnd.ensures.sorted c.ends_at-in-SameEnd.ensures.part c.by_end-in-SameEnd.ensures (λ i there h. h))
+returns-in-SameEnd c = rw c.in-SameEnd.is (c.ending_at-in-SameEnd.ensures (in_window SameEnd c.args.times.now.start c.args.times.now.stop) (λ i h. h))
 
 pub returns-in-SameTimes : goal.returns-in-SameTimes
 returns-in-SameTimes c = rw c.in-SameTimes.is (c.at.ensures (in_window SameTimes c.args.times.now.start c.args.times.now.stop) (same_times_asks c.args.times.now))
@@ -50,12 +47,3 @@ returns-in-StrictlyAround c = rw c.in-StrictlyAround.is (c.around-in-StrictlyAro
 
 pub returns-in-Overlaps : goal.returns-in-Overlaps
 returns-in-Overlaps c = rw c.in-Overlaps.is (c.overlapping.ensures (in_window Overlaps c.args.times.now.start c.args.times.now.stop) (overlaps_asks c.args.times.now.start c.args.times.now.stop))
-
-pub by_end-requires-clause-order : goal.by_end-requires-clause-order
-by_end-requires-clause-order c = AreInOrder-part c.args.begins.now c.args.ends.now.keys c.ends_before.result c.args.falls _ c.requires.index c.ends_before.ensures.part
-
-pub by_end-requires-in-EndsAtBegin-clause-order : goal.by_end-requires-in-EndsAtBegin-clause-order
-by_end-requires-in-EndsAtBegin-clause-order c = AreInOrder-part c.args.begins.now c.args.ends.now.keys c.ends_at.result c.args.falls _ c.requires.index c.ends_at.ensures.part
-
-pub by_end-requires-in-SameEnd-clause-order : goal.by_end-requires-in-SameEnd-clause-order
-by_end-requires-in-SameEnd-clause-order c = AreInOrder-part c.args.begins.now c.args.ends.now.keys c.ends_at-in-SameEnd.result c.args.falls _ c.requires.index c.ends_at-in-SameEnd.ensures.part

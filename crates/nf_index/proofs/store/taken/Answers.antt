@@ -17,6 +17,6 @@ returns c =
     let is = c.args.begins.now in
     let others : c.is_some-others.result ≡ list_any (has_times (times_of i)) is =
     c.is_some-others.ensures ∙ some_alike c.next_in.result ∙ ap is_some (sym (first_in c.next_in.result c.with_times-others.result c.next_in.new.part c.next_in.ensures)) ∙ ap (λ js. is_some (first_of js)) c.with_times-others.ensures ∙ first_passes (has_times c.own_times-times.result) is ∙ ap (λ u. list_any (has_times u) is) c.own_times-times.ensures.is in
-    let left : (t : Times) → has_end c.leave.new.ends.keys t ≡ (has_end c.args.ends.now.keys t && not (not (list_any (has_times (times_of i)) is) && is_same_end (times_of i) t)) =
-    λ t. c.leave.ensures t ∙ (λ k. has_end c.args.ends.now.keys t && not (not (others k) && is_same_end (c.own_times-times.ensures.is k) t)) in
-    IsIndex-taken i is c.args.ends.now.keys c.leave.new.ends.keys c.args.falls c.counted.result c.requires.index c.turns_at-turns.ensures.sorted left c.counted.ensures
+    let left : (t : Times) → has_end c.leave.new.ends t ≡ (has_end c.args.ends.now t && not (not (list_any (has_times (times_of i)) is) && is_same_end (times_of i) t)) =
+    λ t. c.leave.ensures t ∙ (λ k. has_end c.args.ends.now t && not (not (others k) && is_same_end (c.own_times-times.ensures.is k) t)) in
+    IsIndex-taken i is c.args.ends.now c.leave.new.ends c.args.falls c.counted.result c.requires.index c.turns_at-turns.ensures.sorted left c.counted.ensures

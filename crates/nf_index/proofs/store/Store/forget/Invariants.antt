@@ -5,7 +5,7 @@ use Rattle.nf_index.proofs.store.Store.forget.Given as goal
 
 abbrev pub invariant-loop-interval : goal.invariant-loop-interval
 invariant-loop-interval l = record {
-  index : IsIndex l.self-inside.begins l.self-inside.ends.keys l.self-inside.falls;
+  index : IsIndex l.self-inside.begins l.self-inside.ends l.self-inside.falls;
   kept : filter (λ i. not (is_before l.before i)) l.self-inside.begins ≡ filter (λ i. not (is_before l.before i)) l.fn.self;
 }
 

@@ -11,6 +11,6 @@ unfolding falls
 invariant_of-result c = record {
   sorted = subst IsSet (sym c.new.ensures) IsSet-empty;
   stored = λ i there. absurd (true≢false (sym there ∙ ap (λ is. has is i) c.new.ensures));
-  times = λ t. ap (list_any (is_at (times_cmp t))) c.new-2.ensures.empty ∙ sym (ap (list_any (has_times t)) c.new.ensures);
+  times = λ t. ap (list_any (is_at (times_cmp t))) c.new-2.ensures ∙ sym (ap (list_any (has_times t)) c.new.ensures);
   counted = sym (ap falls c.new.ensures);
 }
