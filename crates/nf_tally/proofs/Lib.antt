@@ -1,4 +1,5 @@
 mod DeltaLemmas
 mod NumberLemmas
 mod CarriedLemmas
+mod CountedLemmas
 pub mod Public

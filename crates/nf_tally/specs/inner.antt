@@ -1,3 +1,4 @@
 pub mod Positive
 pub mod Carried
 pub mod Fewer
+pub mod Counted

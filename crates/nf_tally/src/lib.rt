@@ -8,6 +8,7 @@
 //! stand the incremental parts of evaluation.
 #![tactic(auto)]
 
+mod counts;
 mod few;
 mod net;
 mod settling;

@@ -4,27 +4,30 @@ ghost use Rattle.std.specs.Prelude.{◌≡◌, ℕ, ◌+◌, ◌<◌, [], true, 
 ghost use Rattle.nf_core.specs.Intervals.{same};
 ghost use Rattle.nf_tally.specs.Numbers.{number, one_at, is_on};
 
-use nf_core::{Interval, NoMemory, TryCopy};
+use crate::counts::Counts;
+use nf_core::{Interval, IntervalSet, NoMemory, TryCopy};
 use std::alloc::Global;
-use std::collections::BTreeMap;
 use std::marker::Model;
 
 /// A number above 0 for each of some intervals; every other interval has the number 0. Contracts see
-/// the intervals with their numbers, and read them by `number`.
+/// the intervals with their numbers, and read them by `number`. Most numbers are 1, so the intervals
+/// that have one are a set, and only what a number is above 1 is counted.
 #[derive(Drop)]
 pub struct Tally {
-    numbers: BTreeMap<Interval, u128>,
+    alloc: Global,
+    known: IntervalSet,
+    beyond: Counts,
 }
 
 impl Model for Tally {
     ghost use Rattle.nf_tally.specs.Numbers.{Numbers};
-    ghost use Rattle.nf_tally.specs.inner.Positive.{ArePositive};
+    ghost use Rattle.nf_tally.specs.inner.Counted.{counted, AreCounted};
 
     ghost Value = { Numbers };
 
-    ghost view = { λ t. t.numbers.entries };
+    ghost view = { λ t. counted t.known t.beyond };
 
-    ghost invariant = { λ t. ArePositive t.numbers.entries };
+    ghost invariant = { λ t. AreCounted t.known t.beyond };
 }
 
 impl Tally {
@@ -33,7 +36,9 @@ impl Tally {
         ensures { result ≡ [] }
     {
         Tally {
-            numbers: BTreeMap::new(alloc),
+            alloc,
+            known: IntervalSet::new(alloc),
+            beyond: Counts::new(alloc),
         }
     }
 
@@ -41,7 +46,11 @@ impl Tally {
     pub fn number(&self, interval: &Interval) -> u128
         ensures { result ≡ number self.now interval.now }
     {
-        self.numbers.get(interval).copied().unwrap_or(0)
+        if self.known.has(interval) {
+            self.beyond.number(interval) + 1
+        } else {
+            0
+        }
     }
 
     /// One more for an interval, which is kept where it had no number. Where memory is wanted, or the
@@ -104,7 +113,8 @@ impl Tally {
         ensures { (q : _)
             → number self.new q ≡ (if same interval.now q then 0 else number self.old q) }
     {
-        self.numbers.remove(interval);
+        self.known.remove(interval);
+        self.beyond.clear(interval);
     }
 
     /// One more for an interval that has a number, and nothing else. Answers whether it has one.
@@ -115,13 +125,13 @@ impl Tally {
         ensures unknown { IfOk result (λ known. known ≡ false → self.new ≡ self.old) }
         ensures err { OnErr result (self.new ≡ self.old) }
     {
-        let Some(count) = self.numbers.get_mut(interval) else {
+        if !self.known.has(interval) {
             return Ok(false);
-        };
-        let Some(more) = count.checked_add(1) else {
+        }
+        if self.beyond.number(interval) >= u128::MAX - 1 {
             return Err(NoMemory);
-        };
-        *count = more;
+        }
+        self.beyond.raise_copy(self.alloc, interval)?;
         Ok(true)
     }
 
@@ -132,25 +142,31 @@ impl Tally {
             → (q : _) → number self.new q + one_at interval.now q ≡ number self.old q }
         ensures few { result ≡ false → self.new ≡ self.old }
     {
-        let Some(count) = self.numbers.get_mut(interval) else {
-            return false;
-        };
-        if *count <= 1 {
-            return false;
-        }
-        *count -= 1;
-        true
+        self.beyond.lower(interval)
     }
 
-    /// Gives an interval a number above 0.
+    /// Gives an interval without a number one above 0. Where memory is wanted the tally stays as it
+    /// was.
     pub(crate) fn put(&mut self, interval: Interval, count: u128) -> Result<(), NoMemory>
-        requires { 0 < count }
+        requires some { 0 < count }
+        requires none { number self.old interval ≡ 0 }
         ensures ok { OnOk result ((q : _)
             → number self.new q ≡ (if same interval q then count else number self.old q)) }
         ensures err { OnErr result (self.new ≡ self.old) }
     {
-        self.numbers.insert(interval, count)?;
-        Ok(())
+        if count == 1 {
+            self.known.insert(interval)?;
+            return Ok(());
+        }
+        let key = interval.copy(self.alloc)?;
+        self.beyond.put(interval.copy(self.alloc)?, count - 1)?;
+        match self.known.insert(interval) {
+            Ok(_) => Ok(()),
+            Err(error) => {
+                self.beyond.clear(&key);
+                Err(error)
+            }
+        }
     }
 
     /// Takes an interval's number away whole, and answers the interval that was kept for it.
@@ -160,7 +176,8 @@ impl Tally {
         ensures rest { (q : _)
             → number self.new q ≡ (if same interval.now q then 0 else number self.old q) }
     {
-        let (kept, _) = self.numbers.remove_entry(interval)?;
-        Some(kept)
+        let kept = self.known.take(interval);
+        self.beyond.clear(interval);
+        kept
     }
 }

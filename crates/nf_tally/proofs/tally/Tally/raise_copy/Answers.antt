@@ -15,3 +15,10 @@ returns-clause-ok c =
     (λ (put : (q : Interval) → number c.put.new.self q ≡ cond (same c.in_ok-copy.field-0 q) 1 (number c.raise_known.new.self q)) q.
     one_more i q 1 c.args.self.now c.put.new.self
     (put q ∙ ap (λ (j : Interval). cond (same j q) 1 (number c.raise_known.new.self q)) c.in_ok-copy.ensures ∙ ap (λ (numbers : Numbers). cond (same i q) 1 (number numbers q)) kept) (ap (λ n. n + 1) none)) c.put.ensures.ok
+
+pub put-requires-clause-none : goal.put-requires-clause-none
+put-requires-clause-none c =
+    let i = c.args.interval.now in
+    let none = off_is (number c.args.self.now i) (sym c.in_ok-raise_known.ensures.known ∙ c.if-branch.false) in
+    let kept : c.raise_known.new.self ≡ c.args.self.now = c.in_ok-raise_known.ensures.unknown c.if-branch.false in
+    ap (number c.raise_known.new.self) c.in_ok-copy.ensures ∙ ap (λ (numbers : Numbers). number numbers i) kept ∙ none

@@ -1,35 +1,25 @@
--- At u128's end nothing is written; else the number is written plus one.
-use Rattle.std.proofs.Common.{◌≡◌, ◌+◌, ◌<◌, Some, IsSome, unwrap_or, subst, sym, refl, ap, ◌∙◌, arith}
-use Rattle.std.specs.Map.{lookup}
-use Rattle.std.proofs.lemmas.Map.Steps.{set_value_same}
-use Rattle.nf_core.specs.Intervals.{same}
-use Rattle.nf_tally.specs.Numbers.{Numbers, number, one_at}
-use Rattle.nf_tally.specs.inner.Positive.{ArePositive}
-use Rattle.nf_tally.proofs.NumberLemmas.{positive_updated, number_looked_up, one_more}
+-- Nothing is known of an interval that has no number; else one more of it is counted beyond the first.
+use Rattle.std.proofs.Common.{◌≡◌, ◌+◌, ◌<◌, ◌^◌, ap, sym, ◌∙◌, rules, arith}
+use Rattle.nf_tally.specs.Numbers.{Numbers, number, one_at, is_on}
+use Rattle.nf_tally.proofs.CountedLemmas.{is_known, raised_number, raised_counted}
 use Rattle.nf_tally.proofs.tally.Tally.raise_known.Goals as goal
 
-pub invariant_of-self-in_default-checked_add : goal.invariant_of-self-in_default-checked_add
-invariant_of-self-in_default-checked_add c = subst ArePositive (sym ((c.get_mut.follows.holds c.in-Some.count.now).0 ∙ set_value_same (same c.args.interval.now) c.self.inside.numbers.entries c.in-Some.count.now (sym c.in-Some.ensures.value))) c.self.invariant
+pub returns-then-not-has-clause-known : goal.returns-then-not-has-clause-known
+returns-then-not-has-clause-known c =
+    c.if-not-has.ensures ∙ sym (is_known c.self.inside.known c.self.inside.beyond c.args.interval.now) ∙ ap (λ (numbers : Numbers). is_on (number numbers c.args.interval.now)) c.self.view_is
 
-pub returns-in_default-checked_add-clause-err : goal.returns-in_default-checked_add-clause-err
-returns-in_default-checked_add-clause-err c = ((c.get_mut.follows.holds c.in-Some.count.now).0 ∙ set_value_same (same c.args.interval.now) c.self.inside.numbers.entries c.in-Some.count.now (sym c.in-Some.ensures.value)) ∙ c.self.view_is
+pub returns-clause-known : goal.returns-clause-known
+returns-clause-known c =
+    c.if-not-has.ensures ∙ sym (is_known c.self.inside.known c.self.inside.beyond c.args.interval.now) ∙ ap (λ (numbers : Numbers). is_on (number numbers c.args.interval.now)) c.self.view_is
 
 pub invariant_of-self-2 : goal.invariant_of-self-2
 invariant_of-self-2 c =
-    let there : IsSome (lookup (same c.args.interval.now) c.self.inside.numbers.entries) = subst IsSome c.in-Some.ensures.value refl in
-    let more : c.in-Some.count.now + 1 ≡ c.in-Some-checked_add.more = sym c.in-Some-checked_add.ensures.1 in
-    let above : 0 < c.in-Some-checked_add.more = omega arith in
-    positive_updated c.args.interval.now (Some c.in-Some-checked_add.more) c.self.inside.numbers.entries (c.get_mut.follows.lender c.in-Some-checked_add.more).entries
-    ((c.get_mut.follows.holds c.in-Some-checked_add.more).3 there).0 above c.self.invariant
+    let i = c.args.interval.now in
+    let was = c.number.ensures in
+    let room : number c.self.inside.beyond i + 2 < 2 ^ 128 = grind (arith, c.if-number.false) in
+    raised_counted i c.self.inside.known c.self.inside.beyond c.self.invariant c.raise_copy.new.self (sym c.if-not-has.ensures) c.in_ok-raise_copy.ensures.ok room
 
 pub returns-clause-raised : goal.returns-clause-raised
 returns-clause-raised c = λ _ q.
-    let old = c.self.inside.numbers.entries in
-    let new = (c.get_mut.follows.lender c.in-Some-checked_add.more).entries in
-    let there : IsSome (lookup (same c.args.interval.now) c.self.inside.numbers.entries) = subst IsSome c.in-Some.ensures.value refl in
-    let more : c.in-Some.count.now + 1 ≡ c.in-Some-checked_add.more = sym c.in-Some-checked_add.ensures.1 in
-    let was : c.in-Some.count.now ≡ number old c.args.interval.now = ap (λ o. unwrap_or o 0) c.in-Some.ensures.value in
-    let one : number old c.args.interval.now + 1 ≡ c.in-Some-checked_add.more = omega arith in
-    subst (λ (numbers : Numbers). number new q ≡ number numbers q + one_at c.args.interval.now q) c.self.view_is
-    (one_more c.args.interval.now q c.in-Some-checked_add.more old new
-    (number_looked_up c.args.interval.now q c.in-Some-checked_add.more old new (((c.get_mut.follows.holds c.in-Some-checked_add.more).3 there).0 q)) one)
+    raised_number c.args.interval.now c.self.inside.known c.self.inside.beyond c.self.invariant c.raise_copy.new.self (sym c.if-not-has.ensures) c.in_ok-raise_copy.ensures.ok q
+    ∙ ap (λ (numbers : Numbers). number numbers q + one_at c.args.interval.now q) c.self.view_is
