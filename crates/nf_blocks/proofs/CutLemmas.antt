@@ -9,7 +9,7 @@ use Rattle.std.specs.List.{AllByRecursion}
 use Rattle.std.specs.List.Sorted.{IsStrictlySortedBy, IsPartitionedBy, IsPartitionPoint}
 use Rattle.std.proofs.Math.Seq.{take-append-add, drop-append-add}
 use Rattle.std.proofs.lemmas.Bool.{cases_lt}
-use Rattle.std.proofs.lemmas.List.{drop_all, drop_more, take_all, take-append-le, drop-append-le, take-append-drop}
+use Rattle.std.proofs.lemmas.List.{get_or_default, drop_all, drop_more, take_all, take-append-le, drop-append-le, take-append-drop}
 use Rattle.std.proofs.lemmas.List.Elements.{All-from_recursion, All-tail, All-get_or}
 use Rattle.nf_blocks.specs.Blocks.{has}
 use Rattle.nf_blocks.specs.inner.Flat.{flat}
@@ -26,6 +26,19 @@ pub no_items : {X : Type 0} (bs : List (Vec X)) (at : ℕ) → length bs ≤ at 
 no_items [] at h = refl
 no_items (b ∷ bs) zero h = absurd (omega arith)
 no_items (b ∷ bs) (suc at) h = no_items bs at (omega arith)
+
+-- what an element is said to be, at its index whatever stands elsewhere
+pub at_index : {X : Type 0} (f : X → Bool) (xs : List X) (n : ℕ) (x : X) (c : Bool) → x ≡ get_or xs n x → n < length xs → f x ≡ c → (d : X) → f (get_or xs n d) ≡ c
+at_index f xs n x c is h e d = ap f (get_or_default xs n d x h ∙ sym is) ∙ e
+
+-- where elements that pass come first: past one that passes, and at one that doesn't or at the end
+pub parted_at : {X : Type 0} (f : X → Bool) (xs : List X) (m n : ℕ) → m + 1 ≡ n → IsPartitionedBy f xs → m < length xs → ((d : X) → f (get_or xs m d) ≡ true)
+    → ((d : X) → n < length xs → f (get_or xs n d) ≡ false) → IsPartitionPoint (λ y. f y ≡ true) (λ y. f y ≡ false) xs n
+parted_at {X} f xs m n step parted h passes fails = (λ k d a b. parted k m d (omega arith) h (passes d), λ k d a b. by k d a b (f (get_or xs k d)) refl)
+  where
+    by : (k : ℕ) (d : X) → n ≤ k → k < length xs → (c : Bool) → f (get_or xs k d) ≡ c → f (get_or xs k d) ≡ false
+    by k d a b true e = absurd (true≢false (sym (parted n k d a b e) ∙ fails d (omega arith)))
+    by k d a b false e = e
 
 -- a test that passes in front of each element that passes
 pub record Falls {T : Type 0} (R : T → T → Ordering) (p : T → Bool) : Type 0 where

@@ -1,6 +1,7 @@
 //! Cuts between the elements, and where they stand in the blocks.
 
-ghost use Rattle.std.specs.Prelude.{◌≡◌, ◌≤◌, ℕ, not, length};
+ghost use Rattle.std.specs.Prelude.{◌≡◌, ◌≤◌, ℕ, true, false, not, length};
+ghost use Rattle.std.specs.List.Sorted.{IsPartitionPoint};
 ghost use Rattle.std.specs.declared.cmp.Ordering.{Ordering};
 ghost use Rattle.std.specs.Range.Bound.{bound_map};
 ghost use Rattle.std.specs.BTreeMap.Range.{is_from_start, is_past_end};
@@ -89,15 +90,43 @@ pub(crate) fn place_of<T: Ord>(blocks: &[Vec<T>], cut: &Cut<'_, T>) -> Place
     ensures place { (count : ℕ) → AreBlocks T.cmp blocks.now count
         → IsPlace (is_left T.cmp cut.now) blocks.now result }
 {
-    let block = blocks.partition_point(
-        |block: &Vec<T>| -> bool
-            ensures { result ≡ last_passes (is_left T.cmp cut.entry.now) block.now.items }
-        { ends_left(cut, block) },
-    );
+    let block = block_behind(blocks, cut);
     let within = block_at(blocks, block).partition_point(
         |item: &T| -> bool
             ensures { result ≡ is_left T.cmp cut.entry.now item.now }
         { is_left(cut, item) },
     );
     Place { block, within }
+}
+
+/// The first block that doesn't end before a cut, as many as there are where each one does. The
+/// last two are asked first: what comes in order of time mostly looks there.
+fn block_behind<T: Ord>(blocks: &[Vec<T>], cut: &Cut<'_, T>) -> usize
+    ensures bound { result ≤ length blocks.now }
+    ensures parts { (count : ℕ) → AreBlocks T.cmp blocks.now count
+        → IsPartitionPoint (λ b. last_passes (is_left T.cmp cut.now) b.items ≡ true)
+        (λ b. last_passes (is_left T.cmp cut.now) b.items ≡ false) blocks.now result }
+{
+    let count = blocks.len();
+    if count < 2 || !ends_left(cut, &blocks[count - 2]) {
+        first_not_left(blocks, cut)
+    } else if ends_left(cut, &blocks[count - 1]) {
+        count
+    } else {
+        count - 1
+    }
+}
+
+/// The first block that doesn't end before a cut, by a search of them all.
+fn first_not_left<T: Ord>(blocks: &[Vec<T>], cut: &Cut<'_, T>) -> usize
+    ensures bound { result ≤ length blocks.now }
+    ensures parts { (count : ℕ) → AreBlocks T.cmp blocks.now count
+        → IsPartitionPoint (λ b. last_passes (is_left T.cmp cut.now) b.items ≡ true)
+        (λ b. last_passes (is_left T.cmp cut.now) b.items ≡ false) blocks.now result }
+{
+    blocks.partition_point(
+        |block: &Vec<T>| -> bool
+            ensures { result ≡ last_passes (is_left T.cmp cut.entry.now) block.now.items }
+        { ends_left(cut, block) },
+    )
 }

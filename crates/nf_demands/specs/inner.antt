@@ -1,0 +1,2 @@
+-- How the code works, no part of the meaning.
+pub mod Collected
