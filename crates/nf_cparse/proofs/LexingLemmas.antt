@@ -8,7 +8,8 @@ use Rattle.nf_cparse.specs.declared.symbol.Sym.{Sym}
 use Rattle.nf_cparse.specs.declared.piece.Piece.{Piece}
 use Rattle.nf_cparse.specs.declared.piece.Piece.TheVariants as piece
 use Rattle.nf_cparse.specs.Pieces.{piece_of}
-use Rattle.nf_cparse.specs.Lexing.{word_at, Answer, in_front, line_behind, Lexes, ends, skips, takes, fails, Place, place, IsNext}
+use Rattle.nf_cparse.specs.Lexing.{word_at, Answer, in_front, line_behind, Lexes, ends, skips, takes, fails}
+use Rattle.nf_cparse.specs.inner.Tokens.{Place, place, IsNext, by_piece, answer_in, answer_at}
 use Rattle.nf_cparse.specs.inner.Fitting.{FitsIn}
 use Rattle.nf_cparse.proofs.PieceLemmas.{piece_fits}
 
@@ -113,24 +114,27 @@ lexes_one line bytes _ _ (fails {n = n} l p) (skips {n = m} h q f) = absurd (gap
 lexes_one line bytes _ _ (fails {n = n} l p) (takes {n = m} {s = k} h q f i) = absurd (token_fault k m n (sym q ∙ p))
 lexes_one line bytes _ _ (fails {n = n} l p) (fails {n = m} k q) = ap (λ j. Err (line_behind line (take j bytes))) (fault_len n m (sym p ∙ q))
 
--- every list of bytes has an answer
-Answered : ℕ → List ℕ → Type 0
-Answered line bytes = (answer : Answer) × Lexes line bytes answer
+-- the answer that is defined by the first pieces is one
+lexed_piece : (pieces line : ℕ) (bytes : List ℕ) → 0 < length bytes → (p : Piece) → piece_of bytes ≡ p
+    → ((n : ℕ) → 0 < n → n ≤ length bytes → Lexes (line_behind line (take n bytes)) (drop n bytes) (answer_in pieces (line_behind line (take n bytes)) (drop n bytes)))
+    → FitsIn bytes p → Lexes line bytes (by_piece (answer_in pieces) line bytes p)
+lexed_piece pieces line bytes l (piece.Gap n) e rest fits = skips l e (rest n fits.0 fits.1)
+lexed_piece pieces line bytes l (piece.Token k n) e rest fits = takes l e (rest n fits.0 fits.1) refl
+lexed_piece pieces line bytes l (piece.Fault n) e rest fits = fails l e
 
-with_piece : (line : ℕ) (bytes : List ℕ) → 0 < length bytes → (p : Piece) → piece_of bytes ≡ p → ((n : ℕ) → 0 < n → n ≤ length bytes → Answered (line_behind line (take n bytes)) (drop n bytes)) → FitsIn bytes p → Answered line bytes
-unfolding Answered
-with_piece line bytes l (piece.Gap n) e rest fits = let r = rest n fits.0 fits.1 in (r.0, skips l e r.1)
-with_piece line bytes l (piece.Token k n) e rest fits = let r = rest n fits.0 fits.1 in (in_front (word_at k (take n bytes) line) r.0, takes l e r.1 refl)
-with_piece line bytes l (piece.Fault n) e rest fits = (Err (line_behind line (take n bytes)), fails l e)
-
-some_answer : (room line : ℕ) (bytes : List ℕ) → length bytes ≤ room → Answered line bytes
-unfolding Answered
-some_answer room line [] h = (Ok [], ends refl)
-some_answer zero line (b ∷ bytes) h = absurd (omega arith)
-some_answer (suc room) line (b ∷ bytes) h = with_piece line (b ∷ bytes) (omega arith) (piece_of (b ∷ bytes)) refl
-    (λ n some within. some_answer room (line_behind line (take n (b ∷ bytes))) (drop n (b ∷ bytes)) (omega (arith, length-drop n (b ∷ bytes), h, some)))
+lexed_in : (pieces line : ℕ) (bytes : List ℕ) → length bytes ≤ pieces → Lexes line bytes (answer_in pieces line bytes)
+unfolding answer_in
+lexed_in zero line [] h = ends refl
+lexed_in (suc pieces) line [] h = ends refl
+lexed_in zero line (b ∷ bytes) h = absurd (omega arith)
+lexed_in (suc pieces) line (b ∷ bytes) h = lexed_piece pieces line (b ∷ bytes) (omega arith) (piece_of (b ∷ bytes)) refl
+    (λ n some within. lexed_in pieces (line_behind line (take n (b ∷ bytes))) (drop n (b ∷ bytes)) (omega (arith, length-drop n (b ∷ bytes), h, some)))
     (piece_fits (b ∷ bytes) (omega arith))
 
+pub lexed_at : (at : Place) → Lexes at.line at.rest (answer_at at)
+unfolding answer_at
+lexed_at at = lexed_in (length at.rest) at.line at.rest (omega arith)
+
+-- every list of bytes has an answer
 pub lexes_some : (line : ℕ) (bytes : List ℕ) → (answer : Answer) × Lexes line bytes answer
-unfolding Answered
-lexes_some line bytes = some_answer (length bytes) line bytes (omega arith)
+lexes_some line bytes = (answer_at (place bytes line), lexed_at (place bytes line))

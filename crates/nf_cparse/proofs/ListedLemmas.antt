@@ -19,7 +19,7 @@ module _ {A : Type 0} (Item : List ℕ → A → List ℕ → Type 0) (End : Lis
   so_far_ends start found now rest s e = subst (λ xs. AreListed Item End start xs rest) (append-nil found) (s.goes_on [] rest (ends e))
 
   -- where neither an item nor the end comes next, nothing is listed
-  nothing_next : (now : List ℕ) → ((x : A) (next : List ℕ) → Item now x next → ⊥) → ((rest : List ℕ) → End now rest → ⊥) → (xs : List A) (rest : List ℕ) → AreListed Item End now xs rest → ⊥
+  pub nothing_next : (now : List ℕ) → ((x : A) (next : List ℕ) → Item now x next → ⊥) → ((rest : List ℕ) → End now rest → ⊥) → (xs : List A) (rest : List ℕ) → AreListed Item End now xs rest → ⊥
   nothing_next now no_item no_end _ rest (ends e) = no_end rest e
   nothing_next now no_item no_end _ rest (more {next = next} {x = x} i l) = no_item x next i
 
@@ -31,7 +31,7 @@ module _ {A : Type 0} (Item : List ℕ → A → List ℕ → Type 0) (End : Lis
   module _ (apart : (bytes next rest : List ℕ) (x : A) → Item bytes x next → End bytes rest → ⊥)
       (same : (bytes next other : List ℕ) (x y : A) → Item bytes x next → Item bytes y other → (x ≡ y) × (next ≡ other))
       (one_end : (bytes rest other : List ℕ) → End bytes rest → End bytes other → rest ≡ other) where
-    behind_item : (now next : List ℕ) (x : A) → Item now x next → (xs : List A) (rest : List ℕ) → AreListed Item End now xs rest → (ys : List A) × (xs ≡ x ∷ ys) × AreListed Item End next ys rest
+    pub behind_item : (now next : List ℕ) (x : A) → Item now x next → (xs : List A) (rest : List ℕ) → AreListed Item End now xs rest → (ys : List A) × (xs ≡ x ∷ ys) × AreListed Item End next ys rest
     behind_item now next x i _ rest (ends e) = absurd (apart now next rest x i e)
     behind_item now next x i _ rest (more {next = other} {x = y} {xs = ys} j l) =
         let p = same now next other x y i j in

@@ -37,14 +37,14 @@ word_read (x ∷ word) rest some inner other ends =
     run_first x (word ++ rest) (both (is_inner x) (list_all is_inner word) inner).0 ∙ rw (run, other) refl
 
 -- separators, and what is none of them
-blank_apart : (x : ℕ) → is_blank x ≡ true → (is_inner x ≡ false) × (is_ascii_digit x ≡ false)
+pub blank_apart : (x : ℕ) → is_blank x ≡ true → (is_inner x ≡ false) × (is_ascii_digit x ≡ false)
 blank_apart x h = (grind (arith, nat_tests), grind (arith, nat_tests))
 
 digit_apart : (x : ℕ) → is_ascii_digit x ≡ true → is_blank x ≡ false
 digit_apart x h = grind (arith, nat_tests)
 
 -- behind separators, or at once, comes no byte of a class that has none of them
-behind_first : (p : ℕ → Bool) → ((x : ℕ) → is_blank x ≡ true → p x ≡ false) → (blanks rest : List ℕ) → list_all is_blank blanks ≡ true → p (get_or rest 0 0) ≡ false → p (get_or (blanks ++ rest) 0 0) ≡ false
+pub behind_first : (p : ℕ → Bool) → ((x : ℕ) → is_blank x ≡ true → p x ≡ false) → (blanks rest : List ℕ) → list_all is_blank blanks ≡ true → p (get_or rest 0 0) ≡ false → p (get_or (blanks ++ rest) 0 0) ≡ false
 behind_first p apart [] rest h r = r
 behind_first p apart (x ∷ blanks) rest h r = apart x (both (is_blank x) (list_all is_blank blanks) h).0
 
@@ -52,7 +52,7 @@ blanks_past : (blanks rest : List ℕ) → list_all is_blank blanks ≡ true →
 unfolding past_blanks
 blanks_past blanks rest h r = ap (λ n. drop n (blanks ++ rest)) (run_is is_blank blanks rest h r) ∙ drop-append_seam blanks rest
 
-digits_front : (digits rest : List ℕ) → list_all is_ascii_digit digits ≡ true → is_ascii_digit (get_or rest 0 0) ≡ false → (digits_at (digits ++ rest) ≡ digits) × (past_digits (digits ++ rest) ≡ rest)
+pub digits_front : (digits rest : List ℕ) → list_all is_ascii_digit digits ≡ true → is_ascii_digit (get_or rest 0 0) ≡ false → (digits_at (digits ++ rest) ≡ digits) × (past_digits (digits ++ rest) ≡ rest)
 unfolding digits_at past_digits
 digits_front digits rest h r =
     let n = run_is is_ascii_digit digits rest h r in

@@ -1,23 +1,27 @@
 -- Tokens that were read.
-use Rattle.std.proofs.Common.{◌≡◌, ℕ, ◌+◌, List, [], ◌∷◌, ◌++◌, length, drop, refl, sym, ap, ◌∙◌, subst, Ok, Err, Bool, true, false, nat_eq, true≢false}
+use Rattle.std.proofs.Common.{◌≡◌, ℕ, ◌+◌, ◌≤◌, List, [], ◌∷◌, ◌++◌, length, drop, refl, sym, ap, ◌∙◌, subst, Ok, Err, Bool, true, false, nat_eq, true≢false, arith, length-append}
 use Rattle.std.specs.List.{starts_with}
 use Rattle.std.proofs.lemmas.List.{append_assoc}
 use Rattle.std.proofs.lemmas.Bool.Decides.{Decides-eqb}
 use Rattle.std.proofs.lemmas.Slice.Eq.{starts_is}
 use Rattle.std.proofs.Math.Seq.{drop-append_seam}
 use Rattle.nf_cast.specs.Text.{include_text}
-use Rattle.nf_cparse.specs.Lexing.{Word, Answer, in_front, Lexes, LexesText, text, no_include, Place, place, IsNext, StandsBefore, AreTokens}
+use Rattle.nf_cparse.specs.Lexing.{Word, Answer, in_front, Lexes, LexesText, text, no_include}
+use Rattle.nf_cparse.specs.inner.Tokens.{Place, place, IsNext, AreTokens, words_at}
 use Rattle.nf_cparse.proofs.CommentLemmas.{begins}
-use Rattle.nf_cparse.proofs.LexingLemmas.{lexes_one, lexes_some}
+use Rattle.nf_cparse.proofs.LexingLemmas.{lexes_one, lexes_some, lexed_at}
+use Rattle.nf_cparse.proofs.WordLemmas.{are_tokens}
 
 -- an answer behind tokens
 pub behind_words : List Word → Answer → Answer
 behind_words found (Ok words) = Ok (found ++ words)
 behind_words found (Err line) = Err line
 
--- tokens were read between two places: whatever stands behind the later place stands behind them
-pub record IsReadSoFar (start now : Place) : Type 0 where
+-- so many tokens were read between two places: whatever stands behind the later place stands behind them
+pub record IsReadSoFar (start : Place) (count : ℕ) (now : Place) : Type 0 where
   pub found : List Word
+  pub counted : length found ≡ count
+  pub shorter : count + length now.rest ≤ length start.rest
   pub goes_on : (answer : Answer) → Lexes now.line now.rest answer → Lexes start.line start.rest (behind_words found answer)
 
 behind_none : (answer : Answer) → behind_words [] answer ≡ answer
@@ -30,26 +34,38 @@ unfolding behind_words
 behind_more found word (Ok words) = ap Ok (sym (append_assoc found (word ∷ []) words))
 behind_more found word (Err line) = refl
 
-pub read_start : (start : Place) → IsReadSoFar start start
-read_start start = record { found = []; goes_on = λ answer l. subst (Lexes start.line start.rest) (sym (behind_none answer)) l }
+pub read_start : (start : Place) → IsReadSoFar start 0 start
+read_start start = record {
+  found = [];
+  counted = refl;
+  shorter = omega arith;
+  goes_on = λ answer l. subst (Lexes start.line start.rest) (sym (behind_none answer)) l;
+}
 
-pub read_more : (start now next : Place) (word : Word) → IsReadSoFar start now → IsNext now word next → IsReadSoFar start next
-read_more start now next word s n = record {
+pub read_more : (start now next : Place) (count : ℕ) (word : Word) → IsReadSoFar start count now → IsNext now word next → IsReadSoFar start (count + 1) next
+read_more start now next count word s n = record {
   found = s.found ++ word ∷ [];
+  counted = omega (arith, length-append s.found (word ∷ []), s.counted);
+  shorter = omega (arith, s.shorter, n.shorter);
   goes_on = λ answer l. subst (Lexes start.line start.rest) (behind_more s.found word answer) (s.goes_on (in_front word answer) (n.goes_on answer l));
 }
 
-pub read_end : (start now : Place) → IsReadSoFar start now → Lexes now.line now.rest (Ok []) → AreTokens start.line start.rest
+pub read_end : (start : Place) (count : ℕ) (now : Place) → IsReadSoFar start count now → Lexes now.line now.rest (Ok []) → AreTokens start.line start.rest count
 unfolding behind_words
-read_end start now s e = record { words = s.found ++ []; tokens = s.goes_on (Ok []) e }
+read_end start count now s e = record {
+  words = s.found ++ [];
+  tokens = s.goes_on (Ok []) e;
+  counted = omega (arith, length-append s.found [], s.counted);
+  few = omega (arith, s.shorter);
+}
 
-pub read_fault : (start now : Place) (line : ℕ) → IsReadSoFar start now → Lexes now.line now.rest (Err line) → Lexes start.line start.rest (Err line)
+pub read_fault : (start : Place) (count : ℕ) (now : Place) (line : ℕ) → IsReadSoFar start count now → Lexes now.line now.rest (Err line) → Lexes start.line start.rest (Err line)
 unfolding behind_words
-read_fault start now line s e = s.goes_on (Err line) e
+read_fault start count now line s e = s.goes_on (Err line) e
 
 -- the whole text
-pub stands_before : (line : ℕ) (bytes rest : List ℕ) → bytes ≡ include_text ++ rest → AreTokens (line + 1) rest → StandsBefore line bytes (place rest (line + 1))
-stands_before line bytes rest e t = record { words = t.words; tokens = text e t.tokens; ahead = t.tokens }
+pub text_words : (line count : ℕ) (bytes rest : List ℕ) → bytes ≡ include_text ++ rest → AreTokens (line + 1) rest count → LexesText line bytes (Ok (words_at (place rest (line + 1))))
+text_words line count bytes rest e t = text e (subst (Lexes (line + 1) rest) (are_tokens (place rest (line + 1)) t.words t.tokens) (lexed_at (place rest (line + 1))))
 
 pub fault_behind : (line at : ℕ) (bytes rest : List ℕ) → bytes ≡ include_text ++ rest → Lexes (line + 1) rest (Err at) → LexesText line bytes (Err at)
 fault_behind line at bytes rest e l = text e l

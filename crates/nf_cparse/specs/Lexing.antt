@@ -42,27 +42,3 @@ pub data Lexes : ℕ → List ℕ → Answer → Type 0 where
 pub data LexesText (line : ℕ) (bytes : List ℕ) : Answer → Type 0 where
   text : {rest : List ℕ} {answer : Answer} → bytes ≡ include_text ++ rest → Lexes (line + 1) rest answer → LexesText line bytes answer
   no_include : ((rest : List ℕ) → bytes ≡ include_text ++ rest → ⊥) → LexesText line bytes (Err line)
-
--- where a reading of tokens stands: the bytes that are left, and the line of the first of them
-pub record Place : Type 0 where
-  pub rest : List ℕ
-  pub line : ℕ
-
-abbrev pub place : List ℕ → ℕ → Place
-place rest line = record { rest = rest; line = line }
-
--- between two places stands one token, and gaps before it: whatever stands behind the later place, the token stands in front of it
-pub record IsNext (old : Place) (word : Word) (new : Place) : Type 0 where
-  pub shorter : length new.rest < length old.rest
-  pub goes_on : (answer : Answer) → Lexes new.line new.rest answer → Lexes old.line old.rest (in_front word answer)
-
--- a reading stands before the tokens of a text without lexical fault
-pub record StandsBefore (line : ℕ) (bytes : List ℕ) (at : Place) : Type 0 where
-  pub words : List Word
-  pub tokens : LexesText line bytes (Ok words)
-  pub ahead : Lexes at.line at.rest (Ok words)
-
--- bytes are tokens
-pub record AreTokens (line : ℕ) (bytes : List ℕ) : Type 0 where
-  pub words : List Word
-  pub tokens : Lexes line bytes (Ok words)

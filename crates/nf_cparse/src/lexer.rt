@@ -1,8 +1,9 @@
 //! The reader of tokens.
 
-ghost use Rattle.std.specs.Prelude.{◌≡◌, ◌+◌, ◌<◌, ◌≤◌, ◌^◌, [], length, count_by, Ok, Err, IfOk, IfErr, OnErr, MatchOption};
+ghost use Rattle.std.specs.Prelude.{◌≡◌, ◌+◌, ◌<◌, ◌≤◌, ◌^◌, [], length, count_by, Ok, Err, IfOk, IfErr, OnErr, IfSome, MatchOption};
 ghost use Rattle.nf_lex.specs.Bytes.{is_newline};
-ghost use Rattle.nf_cparse.specs.Lexing.{word_at, Lexes, place, IsNext};
+ghost use Rattle.nf_cparse.specs.Lexing.{word_at, Lexes};
+ghost use Rattle.nf_cparse.specs.inner.Tokens.{place, IsNext, IsAtEnd, IsToken};
 
 use crate::piece::Piece;
 use crate::scanning::piece_at;
@@ -11,14 +12,14 @@ use std::marker::Model;
 
 /// A token: what it is, its bytes, and the line of the first of them, counted from 1.
 #[derive(Debug, Clone, Copy)]
-pub struct Token<'a> {
+pub(crate) struct Token<'a> {
     pub sym: Sym,
     pub text: &'a [u8],
     pub line: u64,
 }
 
 /// How many of the bytes are LF.
-fn newlines(bytes: &[u8]) -> u64
+pub(crate) fn newlines(bytes: &[u8]) -> u64
     ensures count { result ≡ count_by is_newline bytes.now }
     ensures within { result ≤ length bytes.now }
 {
@@ -35,6 +36,8 @@ fn next_token(bytes: &[u8], line: u64) -> Result<Option<(Token<'_>, &[u8], u64)>
         (place next.1.now next.2))) }
     ensures line { IfOk result (λ found. MatchOption found (0 ≤ line) (λ next.
         next.2 + length next.1.now < 2 ^ 64)) }
+    ensures form { IfOk result (λ found. IfSome found (λ next.
+        IsToken next.0.sym next.0.text.now)) }
     ensures fault { IfErr result (λ at. Lexes line bytes.now (Err at)) }
 {
     let mut rest = bytes;
@@ -67,14 +70,14 @@ fn next_token(bytes: &[u8], line: u64) -> Result<Option<(Token<'_>, &[u8], u64)>
 /// Where a reading of tokens stands. Contracts see the bytes that are left, and the line of the first of
 /// them.
 #[derive(Drop)]
-pub struct Lexer<'a> {
+pub(crate) struct Lexer<'a> {
     rest: &'a [u8],
     line: u64,
 }
 
 impl<'a> Model for Lexer<'a> {
     ghost use Rattle.std.specs.Prelude.{◌+◌, ◌<◌, ◌^◌, length};
-    ghost use Rattle.nf_cparse.specs.Lexing.{Place, place};
+    ghost use Rattle.nf_cparse.specs.inner.Tokens.{Place, place};
 
     ghost Value = { Place };
 
@@ -92,12 +95,23 @@ impl<'a> Lexer<'a> {
         Lexer { rest, line }
     }
 
-    /// The next token, or None at the end. Else the line of the first fault, and the reading stands where
-    /// it stood. Takes no memory.
-    pub fn next(&mut self) -> Result<Option<Token<'a>>, u64>
-        ensures next { IfOk result (λ found. MatchOption found
-            (Lexes self.old.line self.old.rest (Ok [])) (λ token.
+    /// A reading that stands at the same place.
+    pub(crate) fn again(&self) -> Lexer<'a>
+        ensures { result ≡ self.now }
+    {
+        Lexer {
+            rest: self.rest,
+            line: self.line,
+        }
+    }
+
+    /// The next token, or None at the end. Else the line of the first fault. At the end and at a fault the
+    /// reading stands where it stood. Takes no memory.
+    pub(crate) fn next(&mut self) -> Result<Option<Token<'a>>, u64>
+        ensures next { IfOk result (λ found. MatchOption found (IsAtEnd self.old self.new) (λ token.
             IsNext self.old (word_at token.sym token.text.now token.line) self.new)) }
+        ensures form { IfOk result (λ found. IfSome found (λ token.
+            IsToken token.sym token.text.now)) }
         ensures fault { IfErr result (λ at. Lexes self.old.line self.old.rest (Err at)) }
         ensures stays { OnErr result (self.new ≡ self.old) }
     {

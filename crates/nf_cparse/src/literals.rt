@@ -1,11 +1,14 @@
 //! Literals.
 
-ghost use Rattle.std.specs.Prelude.{◌≡◌, ◌+◌, ◌<◌, ◌≤◌, ◌^◌, nat_lt, MatchOption, length, drop, true, false};
+ghost use Rattle.std.specs.Prelude.{◌≡◌, ◌+◌, ◌<◌, ◌≤◌, ◌^◌, not, nat_lt, MatchOption, length, drop, true, false};
 ghost use Rattle.std.specs.List.{prefix_len, list_all};
 ghost use Rattle.std.specs.Char.{is_ascii_digit};
 ghost use Rattle.std.specs.Str.Parse.{digits_value};
 ghost use Rattle.nf_lex.specs.Bytes.{is_blank};
 ghost use Rattle.nf_cparse.specs.Pieces.{past_blanks, digits_at, past_digits, are_literal_digits, begins_with, literal_piece};
+ghost use Rattle.nf_cparse.specs.declared.symbol.Sym.TheVariants as sym;
+ghost use Rattle.nf_cparse.specs.inner.Tokens.{IsToken};
+ghost use Rattle.nf_cparse.specs.Grammar.{literal_value};
 
 use crate::piece::Piece;
 use crate::symbol::Sym;
@@ -101,4 +104,30 @@ pub(crate) fn literal_piece(bytes: &[u8]) -> Piece
     } else {
         Piece::Fault(0)
     }
+}
+
+/// How many bytes at the front are no digits.
+fn others_len(bytes: &[u8]) -> usize
+    ensures len { result ≡ prefix_len (λ byte. not (is_ascii_digit byte)) bytes.now }
+    ensures within { result ≤ length bytes.now }
+{
+    bytes
+        .iter()
+        .take_while(|byte| !byte.is_ascii_digit())
+        .count()
+}
+
+/// The digits of a literal.
+#[tactic(auto, using(crate::proofs::ValueLemmas::literal_long))]
+pub(crate) fn digits_of(text: &[u8]) -> &[u8]
+    requires { IsToken sym.Lit text.now }
+    ensures value { digits_value 10 result.now ≡ literal_value text.now }
+    ensures digits { list_all is_ascii_digit result.now ≡ true }
+    ensures some { 0 < length result.now }
+    ensures small { digits_value 10 result.now < 2 ^ 63 }
+{
+    let (_, behind) = text.split_at(7);
+    let (_, inside) = behind.split_at(others_len(behind));
+    let (digits, _) = inside.split_at(digits_len(inside));
+    digits
 }

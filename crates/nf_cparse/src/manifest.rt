@@ -4,7 +4,7 @@ ghost use Rattle.std.specs.Prelude.{◌≡◌, ◌⊎◌, ◌≤◌, ◌↔◌, 
 ghost use Rattle.nf_cast.specs.declared.manifests.CManifest.{CManifest};
 ghost use Rattle.nf_cparse.specs.declared.fault.CFault.TheVariants as fault;
 ghost use Rattle.nf_cast.specs.Text.{manifest_text};
-ghost use Rattle.nf_cparse.specs.Manifests.{BeginsWith, IsNoManifest};
+ghost use Rattle.nf_cparse.specs.Manifests.{BeginsWith};
 ghost use Rattle.nf_cparse.specs.inner.Readings.{IsRefused};
 ghost use Rattle.nf_cparse.specs.inner.ManifestParts.{IsVersionAt, AreLinesAt, AreApart};
 
@@ -71,10 +71,10 @@ fn are_apart(alloc: Global, manifest: &CManifest) -> Result<bool, NoMemory>
 /// exactly where the source begins with the text of none, and NoMemory where memory is wanted; then
 /// nothing is left of the manifest. The rule is `BeginsWith` in specs/Manifests.antt: the text of a
 /// manifest is the one that `print_c` of nf_cast gives it, to the byte.
-pub fn read_manifest(alloc: Global, source: &[u8]) -> Result<(CManifest, usize), CFault>
+pub(crate) fn read_manifest(alloc: Global, source: &[u8]) -> Result<(CManifest, usize), CFault>
     ensures found { IfOk result (λ found. BeginsWith source.now found.0 (drop found.1 source.now)) }
     ensures within { IfOk result (λ found. found.1 ≤ length source.now) }
-    ensures fault { IfErr result (IsNoManifest source.now) }
+    ensures fault { IfErr result (IsRefused (BeginsWith source.now)) }
     ensures exact { (m : CManifest) (rest : List ℕ) → BeginsWith source.now m rest
         → (result ≡ Ok (m, length (manifest_text m))) ⊎ (result ≡ Err fault.NoMemory) }
 {

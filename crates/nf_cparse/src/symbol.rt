@@ -3,7 +3,7 @@
 /// A kind of tokens that the grammar tells apart: identifiers, literals, each word and each mark. Which
 /// token is of which kind is said by `piece_of` in specs/Pieces.antt.
 #[derive(Debug, Clone, Copy, PartialEq, Eq)]
-pub enum Sym {
+pub(crate) enum Sym {
     Ident,
     Lit,
     Static,

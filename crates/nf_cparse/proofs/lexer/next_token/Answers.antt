@@ -1,5 +1,5 @@
 use Rattle.std.proofs.Common.{sym, ◌∙◌}
-use Rattle.nf_cparse.specs.Lexing.{place}
+use Rattle.nf_cparse.specs.inner.Tokens.{place}
 use Rattle.nf_cparse.proofs.LexingLemmas.{so_far_gap, so_far_token, so_far_fault, so_far_end, some_left}
 use Rattle.nf_cparse.proofs.lexer.next_token.Goals as goal
 
@@ -14,3 +14,11 @@ returns-in-Fault-clause-fault c = so_far_fault c.pieces.rest.now c.pieces.here c
 
 pub returns-clause-next : goal.returns-clause-next
 returns-clause-next c = so_far_end (place c.args.bytes.now c.args.line) c.pieces.rest.now c.pieces.here c.pieces.invariant (sym c.pieces-test.false ∙ c.is_empty.ensures)
+
+pub returns-in-Token-clause-form : goal.returns-in-Token-clause-form
+returns-in-Token-clause-form c = record {
+  bytes = c.pieces.rest.now;
+  count = c.in-Token.count;
+  piece = sym c.in-Token.ensures.piece;
+  is = c.split_at-in-Token.ensures.front;
+}

@@ -1,5 +1,5 @@
 use Rattle.std.proofs.Common.{length}
-use Rattle.nf_cparse.specs.Lexing.{place}
+use Rattle.nf_cparse.specs.inner.Tokens.{place}
 use Rattle.nf_cparse.proofs.LexingLemmas.{IsSoFar}
 use Rattle.nf_cparse.proofs.lexer.next_token.Given as goal
 
